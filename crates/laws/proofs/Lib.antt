@@ -1,0 +1,4 @@
+pub mod Cases
+pub mod Below
+pub mod Index
+pub mod Runs

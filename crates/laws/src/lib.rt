@@ -1,0 +1,1 @@
+// Definitions and laws that know nothing of racks. No code.

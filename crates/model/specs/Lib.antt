@@ -1,0 +1,15 @@
+pub mod Size
+pub mod Record
+pub mod Table
+pub mod Shape
+pub mod Kind
+pub mod Block
+pub mod Settle
+pub mod Step
+pub mod Sound
+pub mod Turn
+pub mod Fresh
+pub mod Logs
+pub mod Cues
+pub mod Night
+pub mod Sheet
