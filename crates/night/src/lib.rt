@@ -1,0 +1,1 @@
+// Whole nights. No code: the theorems stand in proofs/.
