@@ -1,0 +1,159 @@
+//! "admission of arbiter replies": a night played on a card of its own, so that the answers in it
+//! are mostly admissible.
+
+use crate::night::Night;
+use crate::random::Random;
+use crate::records::RECORD;
+use crate::refusal::number;
+use crate::sizes::{Sizes, MOST_RACKS};
+use crate::sound::SoundNight;
+
+use super::answers::{answer_record, Preference};
+use super::schedule::{Schedule, Scheduler};
+use super::sleep::Sleep;
+use super::wrong::{is_at_answer, wrong_answer, wrong_record};
+
+/// What is decided about a night before its first turn.
+pub struct Plan {
+    pub schedule: Schedule,
+    pub preference: Preference,
+    stalls: bool,
+    switched_off: bool,
+    /// One record in so many is a wrong one.
+    wrong_one_in: Option<usize>,
+    /// The night stops before its last round is over.
+    cut: bool,
+    short_last_piece: bool,
+}
+
+impl Plan {
+    pub fn new(random: &mut Random) -> Plan {
+        Plan {
+            schedule: random.pick(&Schedule::ALL).unwrap_or(Schedule::AnyOrder),
+            preference: random.pick(&Preference::ALL).unwrap_or(Preference::Any),
+            stalls: random.one_in(3),
+            switched_off: random.one_in(3),
+            wrong_one_in: random
+                .pick(&[None, None, Some(40), Some(10), Some(3)])
+                .flatten(),
+            cut: random.one_in(3),
+            short_last_piece: random.one_in(8),
+        }
+    }
+
+    /// What the plan mixes in, in words.
+    pub fn mixed_in(&self) -> impl Iterator<Item = &'static str> {
+        [
+            (self.stalls, "stalls"),
+            (self.switched_off, "racks switched off"),
+            (self.wrong_one_in.is_some(), "wrong records"),
+            (self.cut, "cut"),
+            (self.short_last_piece, "short last piece"),
+        ]
+        .into_iter()
+        .filter_map(|(is_in, what)| is_in.then_some(what))
+    }
+}
+
+/// How many turns got each number; number 0 is for those taken.
+pub type Replies = [u64; 11];
+
+/// The turns of a night that is played after a plan, and the replies to them.
+pub fn play(sizes: Sizes, plan: &Plan, random: &mut Random) -> (Vec<u8>, Replies) {
+    let mut player = Player::new(sizes);
+    player.play(plan, random);
+    (player.turns, player.replies)
+}
+
+/// The record of a turn that will be taken.
+fn right_record(
+    night: &Night,
+    rack: usize,
+    preference: Preference,
+    random: &mut Random,
+) -> [u8; RECORD] {
+    let no_answer = [rack as u8, 255, 255, 0];
+    if is_at_answer(night, rack) {
+        answer_record(night, rack, preference, random).unwrap_or(no_answer)
+    } else {
+        no_answer
+    }
+}
+
+/// Plays a night on a card of its own, and keeps the turns and the replies to them.
+struct Player {
+    night: SoundNight,
+    turns: Vec<u8>,
+    replies: Replies,
+}
+
+impl Player {
+    fn new(sizes: Sizes) -> Player {
+        Player {
+            night: SoundNight::fresh(sizes),
+            turns: Vec::new(),
+            replies: [0; 11],
+        }
+    }
+
+    fn play(&mut self, plan: &Plan, random: &mut Random) {
+        let sizes = self.night.night().sizes();
+        let all_turns = sizes.racks() * sizes.rounds() * sizes.steps_of_round();
+        let most_turns = if plan.cut {
+            random.below(all_turns)
+        } else {
+            2 * all_turns
+        };
+        let mut scheduler = Scheduler::new(plan.schedule);
+        let mut sleep = Sleep::new(plan.stalls, plan.switched_off, sizes, random);
+        for now in 0..most_turns {
+            let awake = sleep.awake(now, self.night.night(), random);
+            if plan.wrong_one_in.is_some_and(|count| random.one_in(count)) {
+                self.give_wrong(random);
+            }
+            let Some(rack) = scheduler.next_rack(self.night.night(), &awake, random) else {
+                break;
+            };
+            if plan.wrong_one_in.is_some() && is_at_answer(self.night.night(), rack) {
+                self.give_wrong_answer(rack, random);
+            }
+            let record = right_record(self.night.night(), rack, plan.preference, random);
+            self.give(&record);
+        }
+        self.end(plan, random);
+    }
+
+    /// Some wrong records after the last right one, and the short last piece.
+    fn end(&mut self, plan: &Plan, random: &mut Random) {
+        if plan.wrong_one_in.is_some() {
+            for _ in 0..random.below(6) {
+                self.give_wrong(random);
+            }
+        }
+        if plan.short_last_piece {
+            let piece = [random.below(MOST_RACKS) as u8, 255, 255];
+            self.give(&piece[..random.between(1, 3)]);
+        }
+    }
+
+    fn give_wrong(&mut self, random: &mut Random) {
+        let record = wrong_record(self.night.night(), random);
+        self.give(&record);
+    }
+
+    /// Bad answers come only at answer steps, so they are mixed in there.
+    fn give_wrong_answer(&mut self, rack: usize, random: &mut Random) {
+        if random.one_in(2) {
+            return;
+        }
+        if let Some(record) = wrong_answer(self.night.night(), rack, random) {
+            self.give(&record);
+        }
+    }
+
+    fn give(&mut self, record: &[u8]) {
+        let reply = self.night.turn(record);
+        self.replies[usize::from(number(&reply))] += 1;
+        self.turns.extend_from_slice(record);
+    }
+}
