@@ -1,3 +1,4 @@
 pub mod Same
+pub mod Sizes
 pub mod Record
 pub mod Table

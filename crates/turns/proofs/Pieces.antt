@@ -1,0 +1,151 @@
+-- A reader that walks the bytes gets the records that `pieces` lists: from each place on, and by each record's index.
+use mathlib.Core.Path.{_≡_, refl, sym, ap, _∙_}
+use mathlib.Core.List.{List, [], _∷_}
+use Prim.Native.Nat.{ℕ, zero, suc, _+_, _*_, _-_, _≤_, _<_}
+use native.Mathlib.Omega.{arith}
+use native.Mathlib.Nat.{add-zero}
+use borrow.Author.Tests.{le-leb, lt-leb, lt-ltb, le-ltb}
+use lib.ListN.{length, getD, drop, length-drop, drop-of-length-le}
+use lib.Seq.{getD-drop, drop-drop}
+use Rattle.laws.proofs.Cases.{either, lt-or-ge}
+use Rattle.model.specs.declared.Turn.{Turn}
+use Rattle.model.specs.declared.Piece.{Piece}
+use Rattle.model.specs.declared.Piece.the-variants.{Whole, Short, End}
+use Rattle.model.specs.Night.{pieceAt, pieces}
+
+-- a turn as the four bytes of its record
+abbrev pub turnBytes : Turn → List ℕ
+turnBytes t = t .rack ∷ t .lane ∷ t .source ∷ t .zero ∷ []
+
+-- the first piece of some bytes
+first-short : (l : List ℕ) → 0 < length l → length l < 4 → pieces l ≡ l ∷ []
+unfolding pieces
+first-short [] h g = absurd (omega arith)
+first-short (a ∷ []) h g = refl
+first-short (a ∷ b ∷ []) h g = refl
+first-short (a ∷ b ∷ c ∷ []) h g = refl
+first-short (a ∷ b ∷ c ∷ d ∷ l) h g = absurd (omega arith)
+
+first-whole : (l : List ℕ) → 4 ≤ length l → pieces l ≡ (getD l 0 0 ∷ getD l 1 0 ∷ getD l 2 0 ∷ getD l 3 0 ∷ []) ∷ pieces (drop 4 l)
+unfolding pieces
+first-whole [] h = absurd (omega arith)
+first-whole (a ∷ []) h = absurd (omega arith)
+first-whole (a ∷ b ∷ []) h = absurd (omega arith)
+first-whole (a ∷ b ∷ c ∷ []) h = absurd (omega arith)
+first-whole (a ∷ b ∷ c ∷ d ∷ l) h = refl
+
+-- what a piece that stands at a place says of the place and of the pieces from there on
+pub record WholeFrom (bytes : List ℕ) (place : ℕ) (t : Turn) (next : ℕ) : Type 0 where
+  pub step : next ≡ place + 4
+  pub inside : next ≤ length bytes
+  pub front : pieces (drop place bytes) ≡ turnBytes t ∷ pieces (drop next bytes)
+
+pub record ShortFrom (bytes : List ℕ) (place left : ℕ) : Type 0 where
+  pub some : 0 < left
+  pub few : left < 4
+  pub inside : place + left ≡ length bytes
+  pub all : pieces (drop place bytes) ≡ drop place bytes ∷ []
+
+pub record EndFrom (bytes : List ℕ) (place : ℕ) : Type 0 where
+  pub past : length bytes ≤ place
+  pub none : pieces (drop place bytes) ≡ []
+
+-- each piece with what it says
+abbrev Says : List ℕ → ℕ → Piece → Type 0
+Says bytes place (Whole t next) = WholeFrom bytes place t next
+Says bytes place (Short left) = ShortFrom bytes place left
+Says bytes place End = EndFrom bytes place
+
+module _ (bytes : List ℕ) (place : ℕ) where
+  at-end : length bytes ≤ place → Says bytes place (pieceAt bytes place)
+  unfolding pieceAt pieces
+  at-end h = rw (le-leb (length bytes) place h) (record { past = h; none = rw (drop-of-length-le bytes h) })
+
+  at-short : place < length bytes → length bytes - place < 4 → Says bytes place (pieceAt bytes place)
+  unfolding pieceAt
+  at-short h g =
+      let e = length-drop place bytes in
+      rw (lt-leb (length bytes) place h, lt-ltb (length bytes - place) 4 g)
+      (record { some = omega arith; few = g; inside = omega arith; all = first-short (drop place bytes) (omega arith) (omega arith) })
+
+  at-whole : place < length bytes → 4 ≤ length bytes - place → Says bytes place (pieceAt bytes place)
+  unfolding pieceAt
+  at-whole h g =
+      let e = length-drop place bytes in
+      let f = first-whole (drop place bytes) (omega arith) in
+      rw (lt-leb (length bytes) place h, le-ltb (length bytes - place) 4 g)
+      (record { step = refl; inside = omega arith; front = f ∙ simp (getD-drop, drop-drop, add-zero) })
+
+  says : Says bytes place (pieceAt bytes place)
+  says =
+      either (lt-or-ge place (length bytes))
+      (λ h. either (lt-or-ge (length bytes - place) 4) (λ g. at-short h g) (λ g. at-whole h g))
+      (λ h. at-end h)
+
+  pub whole-from : (t : Turn) (next : ℕ) → pieceAt bytes place ≡ Whole t next → WholeFrom bytes place t next
+  whole-from t next e = rw e at says
+
+  pub short-from : (left : ℕ) → pieceAt bytes place ≡ Short left → ShortFrom bytes place left
+  short-from left e = rw e at says
+
+  pub end-from : pieceAt bytes place ≡ End → EndFrom bytes place
+  end-from e = rw e at says
+
+-- the pieces from index i on are those of the bytes from place 4 * i on
+pub pieces-drop : (i : ℕ) (bytes : List ℕ) → drop i (pieces bytes) ≡ pieces (drop (4 * i) bytes)
+unfolding pieces
+pieces-drop zero bytes = refl
+pieces-drop (suc i) bytes =
+    let e : 4 * suc i ≡ suc (suc (suc (suc (4 * i)))) = omega arith in
+    rw e (rest (λ l. pieces-drop i l) bytes)
+  where
+    nothing : drop {A = List ℕ} i [] ≡ []
+    nothing = drop-of-length-le [] {i = i} (omega arith)
+
+    rest : ((l : List ℕ) → drop i (pieces l) ≡ pieces (drop (4 * i) l))
+        → (bytes : List ℕ) → drop (suc i) (pieces bytes) ≡ pieces (drop (suc (suc (suc (suc (4 * i))))) bytes)
+    rest fewer [] = refl
+    rest fewer (a ∷ []) = nothing
+    rest fewer (a ∷ b ∷ []) = nothing
+    rest fewer (a ∷ b ∷ c ∷ []) = nothing
+    rest fewer (a ∷ b ∷ c ∷ d ∷ l) = fewer l
+
+-- what a piece that stands at place 4 * i says of record i
+pub record WholeAt (bytes : List ℕ) (i : ℕ) (t : Turn) (next : ℕ) : Type 0 where
+  pub step : next ≡ 4 * i + 4
+  pub there : i < length (pieces bytes)
+  pub is : getD (pieces bytes) i [] ≡ turnBytes t
+
+pub record ShortAt (bytes : List ℕ) (i left : ℕ) : Type 0 where
+  pub last : i + 1 ≡ length (pieces bytes)
+  pub size : length (drop (4 * i) bytes) ≡ left
+  pub is : getD (pieces bytes) i [] ≡ drop (4 * i) bytes
+
+module _ (bytes : List ℕ) (i : ℕ) where
+  -- how many pieces are left, and the first of them
+  left-at : length (pieces bytes) - i ≡ length (pieces (drop (4 * i) bytes))
+  left-at = sym (length-drop i (pieces bytes)) ∙ ap length (pieces-drop i bytes)
+
+  first-at : getD (pieces bytes) i [] ≡ getD (pieces (drop (4 * i) bytes)) 0 []
+  first-at =
+      let e : getD (drop i (pieces bytes)) 0 [] ≡ getD (pieces bytes) i [] = rw add-zero at (getD-drop i (pieces bytes) 0 []) in
+      sym e ∙ ap (λ (l : List (List ℕ)). getD l 0 []) (pieces-drop i bytes)
+
+  pub whole-at : (t : Turn) (next : ℕ) → pieceAt bytes (4 * i) ≡ Whole t next → WholeAt bytes i t next
+  whole-at t next e =
+      let w = whole-from bytes (4 * i) t next e in
+      let n = left-at ∙ ap length (w .front) in
+      record { step = w .step; there = omega arith; is = first-at ∙ ap (λ (l : List (List ℕ)). getD l 0 []) (w .front) }
+
+  pub short-at : (left : ℕ) → pieceAt bytes (4 * i) ≡ Short left → ShortAt bytes i left
+  short-at left e =
+      let s = short-from bytes (4 * i) left e in
+      let n = left-at ∙ ap length (s .all) in
+      record {
+        last = omega arith;
+        size = length-drop (4 * i) bytes ∙ omega (arith, s .inside);
+        is = first-at ∙ ap (λ (l : List (List ℕ)). getD l 0 []) (s .all);
+      }
+
+  pub end-at : pieceAt bytes (4 * i) ≡ End → length (pieces bytes) ≤ i
+  end-at e = let n = left-at ∙ ap length (end-from bytes (4 * i) e .none) in omega arith
