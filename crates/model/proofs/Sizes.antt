@@ -1,8 +1,8 @@
 -- Sizes and lengths that fit, as named facts.
-use mathlib.Core.Path.{_≡_, refl, sym, ap, _∙_}
-use mathlib.Core.Bool.{Bool, true, _&&_}
-use Prim.Native.Nat.{ℕ, _*_, _≤_, _<_}
-use borrow.Author.Tests.{leb-true, le-leb, eqb-true, eq-eqb}
+use mathlib.Core.Path.{_≡_}
+use mathlib.Core.Bool.{true, _&&_}
+use Prim.Native.Nat.{_*_, _≤_}
+use borrow.Author.Tests.{leb-true, eqb-true, eq-eqb}
 use lib.Dec.{eqb, leb}
 use lib.ListN.{length}
 use Rattle.laws.proofs.Cases.{and-true, true-and}

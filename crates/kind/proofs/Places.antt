@@ -1,0 +1,130 @@
+-- Where a step stands: its block, its place there, the lane of the block, and what each kind says of the place.
+use mathlib.Core.Path.{_≡_}
+use Prim.Native.Nat.{ℕ, _+_, _*_, _-_, _≤_, _<_}
+use native.Mathlib.Omega.{arith}
+use native.Mathlib.Nat.{mod-lt, div-add-mod', div-lt-iff-lt-mul}
+use borrow.Author.Tests.{lt-ltb, le-ltb, le-leb, lt-leb, eq-eqb, ne-eqb}
+use Rattle.laws.proofs.Cases.{either, eq-or-ne, lt-or-ge}
+use Rattle.laws.proofs.Index.{product-le}
+use Rattle.model.specs.declared.Size.{Size}
+use Rattle.model.specs.declared.Kind.{Kind}
+use Rattle.model.specs.declared.Kind.the-variants.{Offer, Answer, FirstWrite, FirstRead, SecondWrite, SecondRead}
+use Rattle.model.specs.Size.{blockSteps, roundSteps}
+use Rattle.model.specs.Kind.{kindOf, kindIn, blockAt, placeAt, firstRead, secondRead, laneOf, blockOf}
+
+module _ (s : Size) where
+  pub steps-some : 0 < blockSteps s
+  unfolding blockSteps
+  steps-some = omega arith
+
+  pub steps-most : s .racks ≤ 8 → blockSteps s ≤ 18
+  unfolding blockSteps
+  steps-most h = omega arith
+
+  -- "A round of one rack is 2 + k(2n + 2) steps": at most 74
+  pub round-most : s .racks ≤ 8 → s .lanes ≤ 4 → s .lanes * blockSteps s ≤ 72
+  round-most h g = product-le {a = s .lanes} {b = blockSteps s} {x = 4} {y = 18} g (steps-most h)
+
+  pub round-steps-most : s .racks ≤ 8 → s .lanes ≤ 4 → roundSteps s ≤ 74
+  unfolding roundSteps
+  round-steps-most h g = omega (arith, round-most h g)
+
+  pub place-below : (step : ℕ) → placeAt s step < blockSteps s
+  unfolding placeAt
+  place-below step = mod-lt (step - 2) steps-some
+
+  -- a step by its block and its place
+  pub step-split : (step : ℕ) → 2 ≤ step → step ≡ 2 + (blockAt s step * blockSteps s + placeAt s step)
+  unfolding blockAt placeAt
+  step-split step h = omega (arith, div-add-mod' (step - 2) (blockSteps s))
+
+  pub block-below : (step : ℕ) → 1 ≤ s .lanes → step < roundSteps s → blockAt s step < s .lanes
+  unfolding blockAt roundSteps
+  block-below step h g =
+      let b = product-le {a = 1} {b = 1} {x = s .lanes} {y = blockSteps s} h steps-some in
+      div-lt-iff-lt-mul {k = blockSteps s} {x = step - 2} {y = s .lanes} steps-some .1 (omega arith)
+
+  pub lane-below : (first block : ℕ) → first < s .lanes → block < s .lanes → laneOf first block < s .lanes
+  unfolding laneOf
+  lane-below first block h g =
+      either (eq-or-ne block 0)
+      (λ (e : block ≡ 0). rw (eq-eqb block 0 e) h)
+      (λ n. either (lt-or-ge first block)
+      (λ l. rw (ne-eqb block 0 n, lt-leb block first l) g)
+      (λ l. rw (ne-eqb block 0 n, le-leb block first l) (omega arith)))
+
+  pub lane-at-below : (first step : ℕ) → 1 ≤ s .lanes → first < s .lanes → step < roundSteps s → laneOf first (blockAt s step) < s .lanes
+  lane-at-below first step h g l = lane-below first (blockAt s step) g (block-below step h l)
+
+pub block-of-most : (first lane : ℕ) → blockOf first lane ≤ lane + 1
+unfolding blockOf
+block-of-most first lane =
+    either (eq-or-ne lane first)
+    (λ (e : lane ≡ first). rw (eq-eqb lane first e) (omega arith))
+    (λ n. either (lt-or-ge lane first)
+    (λ l. rw (ne-eqb lane first n, lt-ltb lane first l) (omega arith))
+    (λ l. rw (ne-eqb lane first n, le-ltb lane first l) (omega arith)))
+
+-- a step in a block, at one of the places from low to high
+pub record Among (s : Size) (step low high : ℕ) : Type 0 where
+  pub later : 2 ≤ step
+  pub from : low ≤ placeAt s step
+  pub to : placeAt s step ≤ high
+
+-- the ranges of each kind
+abbrev Range : Size → ℕ → Kind → Type 0
+Range s step Offer = step ≡ 0
+Range s step Answer = step ≡ 1
+Range s step FirstWrite = Among s step 0 0
+Range s step FirstRead = Among s step 1 (s .racks)
+Range s step SecondWrite = Among s step (s .racks + 1) (s .racks + 1)
+Range s step SecondRead = Among s step (s .racks + 2) (2 * s .racks + 1)
+
+in-block : (s : Size) (step : ℕ) → 2 ≤ step → Range s step (kindIn s (placeAt s step))
+unfolding kindIn blockSteps
+in-block s step h =
+    let n = s .racks in
+    let p = placeAt s step in
+    let b = place-below s step in
+    either (lt-or-ge p 1)
+    (λ (l : p < 1). rw (lt-ltb p 1 l) (record { later = h; from = omega arith; to = omega arith }))
+    (λ (g : 1 ≤ p). either (lt-or-ge p (n + 1))
+    (λ (l : p < n + 1). rw (le-ltb p 1 g, lt-ltb p (n + 1) l) (record { later = h; from = g; to = omega arith }))
+    (λ (k : n + 1 ≤ p). either (lt-or-ge p (n + 2))
+    (λ (l : p < n + 2). rw (le-ltb p 1 g, le-ltb p (n + 1) k, lt-ltb p (n + 2) l) (record { later = h; from = k; to = omega arith }))
+    (λ (m : n + 2 ≤ p). rw (le-ltb p 1 g, le-ltb p (n + 1) k, le-ltb p (n + 2) m) (record { later = h; from = m; to = omega arith }))))
+
+range : (s : Size) (step : ℕ) → Range s step (kindOf s step)
+unfolding kindOf
+range s step =
+    either (lt-or-ge step 1)
+    (λ (l : step < 1). rw (lt-ltb step 1 l) (omega arith))
+    (λ (g : 1 ≤ step). either (lt-or-ge step 2)
+    (λ (l : step < 2). rw (le-ltb step 1 g, lt-ltb step 2 l) (omega arith))
+    (λ (m : 2 ≤ step). rw (le-ltb step 1 g, le-ltb step 2 m) (in-block s step m)))
+
+module _ (s : Size) (step : ℕ) where
+  pub offer-step : kindOf s step ≡ Offer → step ≡ 0
+  offer-step e = rw e at (range s step)
+
+  pub answer-step : kindOf s step ≡ Answer → step ≡ 1
+  answer-step e = rw e at (range s step)
+
+  pub first-write-place : kindOf s step ≡ FirstWrite → Among s step 0 0
+  first-write-place e = rw e at (range s step)
+
+  pub first-read-place : kindOf s step ≡ FirstRead → Among s step 1 (s .racks)
+  first-read-place e = rw e at (range s step)
+
+  pub second-write-place : kindOf s step ≡ SecondWrite → Among s step (s .racks + 1) (s .racks + 1)
+  second-write-place e = rw e at (range s step)
+
+  pub second-read-place : kindOf s step ≡ SecondRead → Among s step (s .racks + 2) (2 * s .racks + 1)
+  second-read-place e = rw e at (range s step)
+
+  -- the rack whose cell is read
+  pub first-read-rack : kindOf s step ≡ FirstRead → firstRead (placeAt s step) < s .racks
+  first-read-rack e = let w = first-read-place e in omega arith
+
+  pub second-read-rack : kindOf s step ≡ SecondRead → secondRead s (placeAt s step) < s .racks
+  second-read-rack e = let w = second-read-place e in omega arith

@@ -1,0 +1,133 @@
+-- In which order a rack visits its lanes, how many steps of each lane's block it has taken, and what it has read in its present block.
+use mathlib.Core.Path.{_≡_, refl, sym, ap, _∙_}
+use mathlib.Core.Logic.{_≢_}
+use Prim.Native.Nat.{ℕ, _+_, _*_, _-_, _≤_, _<_}
+use native.Mathlib.Omega.{arith}
+use native.Mathlib.Nat.{zero-mod}
+use borrow.Author.Tests.{lt-ltb, le-ltb, eq-eqb, ne-eqb, le-leb, lt-leb}
+use Rattle.laws.proofs.Cases.{either, lt-or-ge, eq-or-ne}
+use Rattle.model.specs.declared.Size.{Size}
+use Rattle.model.specs.declared.Rack.{Rack}
+use Rattle.model.specs.Size.{blockSteps}
+use Rattle.model.specs.Kind.{blockAt, placeAt, laneOf, laneAt, blockOf, stepsIn, firstsRead, secondsRead}
+use Rattle.steady.proofs.Place.{rows, Stands, stands}
+
+-- the lane of a lane's block is that lane
+pub lane-again : (first lane : ℕ) → laneOf first (blockOf first lane) ≡ lane
+unfolding laneOf blockOf
+lane-again first lane =
+    either (eq-or-ne lane first)
+    (λ (e : lane ≡ first). rw (eq-eqb lane first e) (sym e))
+    (λ (d : lane ≢ first). rw (ne-eqb lane first d)
+    (either (lt-or-ge lane first)
+    (λ (l : lane < first). rw (lt-ltb lane first l, ne-eqb (lane + 1) 0 (λ e. omega arith), le-leb (lane + 1) first (omega arith)) (omega arith))
+    (λ (g : first ≤ lane). rw (le-ltb lane first g, ne-eqb lane 0 (λ e. omega (arith, d)), lt-leb lane first (omega (arith, d))))))
+
+-- and the block of a block's lane is that block
+pub block-again : (first block : ℕ) → blockOf first (laneOf first block) ≡ block
+unfolding laneOf blockOf
+block-again first block =
+    either (eq-or-ne block 0)
+    (λ (e : block ≡ 0). rw (eq-eqb block 0 e, eq-eqb first first refl) (sym e))
+    (λ (d : block ≢ 0). rw (ne-eqb block 0 d)
+    (either (lt-or-ge first block)
+    (λ (l : first < block). rw (lt-leb block first l, ne-eqb block first (λ e. omega arith), le-ltb block first (omega arith)))
+    (λ (g : block ≤ first).
+    let l : block - 1 < first = omega (arith, d) in
+    rw (le-leb block first g, ne-eqb (block - 1) first (λ e. omega arith), lt-ltb (block - 1) first l) (omega (arith, d)))))
+
+pub lane-below : (k first block : ℕ) → first < k → block < k → laneOf first block < k
+unfolding laneOf
+lane-below k first block h g =
+    either (eq-or-ne block 0)
+    (λ (e : block ≡ 0). rw (eq-eqb block 0 e) h)
+    (λ (d : block ≢ 0). rw (ne-eqb block 0 d)
+    (either (lt-or-ge first block)
+    (λ (l : first < block). rw (lt-leb block first l) g)
+    (λ (i : block ≤ first). rw (le-leb block first i) (omega arith))))
+
+pub block-of-below : (k first lane : ℕ) → first < k → lane < k → blockOf first lane < k
+unfolding blockOf
+block-of-below k first lane h g =
+    either (eq-or-ne lane first)
+    (λ (e : lane ≡ first). rw (eq-eqb lane first e) (omega arith))
+    (λ (d : lane ≢ first). rw (ne-eqb lane first d)
+    (either (lt-or-ge lane first)
+    (λ (l : lane < first). rw (lt-ltb lane first l) (omega arith))
+    (λ (i : first ≤ lane). rw (le-ltb lane first i) g)))
+
+module _ (s : Size) where
+  -- nothing is taken or read before the first block
+  module _ (r : Rack) (early : r .step ≤ 2) where
+    pub none-taken : (lane : ℕ) → stepsIn s r lane ≡ 0
+    unfolding stepsIn
+    none-taken lane = omega arith
+
+    at-start : r .step - 2 ≡ 0
+    at-start = omega arith
+
+    place-first : placeAt s (r .step) ≡ 0
+    unfolding placeAt
+    place-first = rw at-start (zero-mod (blockSteps s))
+
+    pub no-firsts : firstsRead s r ≡ 0
+    unfolding firstsRead
+    no-firsts = rw place-first (omega arith)
+
+    pub no-seconds : secondsRead s r ≡ 0
+    unfolding secondsRead
+    no-seconds = rw place-first (omega arith)
+
+  -- by the block of a lane and the block at work
+  module _ (r : Rack) (lane block place : ℕ) (at : Stands s (r .step) block place) where
+    pub all-taken : blockOf (r .first) lane < block → stepsIn s r lane ≡ blockSteps s
+    unfolding stepsIn
+    all-taken h =
+        let e = at .counted in
+        let a = rows (blockSteps s) (blockOf (r .first) lane) block h in
+        omega arith
+
+    some-taken : blockOf (r .first) lane ≡ block → stepsIn s r lane ≡ place
+    unfolding stepsIn
+    some-taken h =
+        let e = at .counted in
+        let p = at .below in
+        let a : blockOf (r .first) lane * blockSteps s ≡ block * blockSteps s = ap (λ (x : ℕ). x * blockSteps s) h in
+        omega arith
+
+  -- the lane at work is that of the block at work
+  module _ (r : Rack) (lane : ℕ) where
+    here-block : lane ≡ laneAt s r → blockOf (r .first) lane ≡ blockAt s (r .step)
+    here-block e = ap (blockOf (r .first)) e ∙ block-again (r .first) (blockAt s (r .step))
+
+    else-block : lane ≢ laneAt s r → blockOf (r .first) lane ≢ blockAt s (r .step)
+    else-block d e = d (sym (lane-again (r .first) lane) ∙ ap (laneOf (r .first)) e)
+
+    pub here-before : 2 ≤ r .step → lane ≡ laneAt s r → stepsIn s r lane ≡ placeAt s (r .step)
+    here-before late e = some-taken r lane _ _ (stands s (r .step) late) (here-block e)
+
+  -- one step on, in the lane at work and in the others
+  module _ (r r′ : Rack) (lane : ℕ) (late : 2 ≤ r .step) (on : r′ .step ≡ r .step + 1) (same : r′ .first ≡ r .first) where
+    pub here-after : lane ≡ laneAt s r → stepsIn s r′ lane ≡ placeAt s (r .step) + 1
+    unfolding stepsIn
+    here-after e =
+        let at = stands s (r .step) late in
+        let c = at .counted in
+        let p = at .below in
+        let a : blockOf (r .first) lane * blockSteps s ≡ blockAt s (r .step) * blockSteps s = ap (λ (x : ℕ). x * blockSteps s) (here-block r lane e) in
+        rw (same, on) (omega arith)
+
+    pub else-after : lane ≢ laneAt s r → stepsIn s r′ lane ≡ stepsIn s r lane
+    unfolding stepsIn
+    else-after d =
+        let at = stands s (r .step) late in
+        let c = at .counted in
+        let p = at .below in
+        rw (same, on)
+        (either (lt-or-ge (blockOf (r .first) lane) (blockAt s (r .step)))
+        (λ (l : blockOf (r .first) lane < blockAt s (r .step)).
+        let a = rows (blockSteps s) (blockOf (r .first) lane) (blockAt s (r .step)) l in
+        omega arith)
+        (λ (g : blockAt s (r .step) ≤ blockOf (r .first) lane).
+        let a = rows (blockSteps s) (blockAt s (r .step)) (blockOf (r .first) lane) (omega (arith, else-block r lane d)) in
+        omega arith))

@@ -1,0 +1,1 @@
+// Theorems that every turn keeps a card sound. No code.
