@@ -21,19 +21,27 @@ loop-holds c = (omega arith, simp (add-zero, zero-add, sub-zero))
 returns : tie.Need-returns Inv-loop μ-loop
 returns c =
     let loop = c .before .before .before in
-    let z = length-zero (loop .before .before .args .table .now) (loop .before .before .args .at + loop .loop .i) (loop .before .before .args .most - loop .loop .i) (sym (c .before .zero-at .ensures) ∙ c .if1 .taken) in
+    let a = loop .before .before .args in
+    let i = loop .loop .i in
+    let none = length-zero (a .table .now) (a .at + i) (a .most - i) (sym (c .before .zero-at .ensures) ∙ c .if1 .taken) in
     omega (arith, loop .loop .inv .1)
 
 loop-again : tie.Need-loop-again Inv-loop μ-loop
 loop-again c =
     let loop = c .before .before .before in
-    let n = length-next (loop .before .before .args .table .now) (loop .before .before .args .at) (loop .loop .i) (loop .before .before .args .most) (c .before .before .loop-test .taken) (sym (c .before .zero-at .ensures) ∙ c .if1 .left) in
+    let a = loop .before .before .args in
+    let one =
+    length-next (a .table .now) (a .at) (loop .loop .i) (a .most) (c .before .before .loop-test .taken)
+    (sym (c .before .zero-at .ensures) ∙ c .if1 .left)
+    in
     (omega arith, omega (arith, loop .loop .inv .1))
 
 returns-2 : tie.Need-returns-2 Inv-loop μ-loop
 returns-2 c =
     let loop = c .before in
-    let m = length-most (loop .before .before .args .table .now) (loop .before .before .args .at + loop .loop .i) (loop .before .before .args .most - loop .loop .i) in
+    let a = loop .before .before .args in
+    let i = loop .loop .i in
+    let none = length-most (a .table .now) (a .at + i) (a .most - i) in
     omega (arith, loop .loop .inv .1)
 
 pub length-from-spec : {M : Type 1} → statement M
