@@ -1,0 +1,13 @@
+pub mod Put
+pub mod Layer
+pub mod Object
+pub mod AdoptCommit
+pub mod Among
+pub mod Choice
+pub mod Edition
+pub mod FirstEdition
+pub mod Log
+pub mod Settle
+pub mod Lane
+pub mod History
+pub mod Clock
