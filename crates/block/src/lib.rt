@@ -2,7 +2,9 @@
 ghost use mathlib.Core.Path.{_≡_};
 ghost use Prim.Native.Nat.{_≤_};
 ghost use Rattle.model.specs.Record.{noCell};
-ghost use Rattle.model.specs.Block.{equalsOwn, allEqualOwn, higher, greatest, secondCell, backsOwn, allBackOwn, sooner, firstCommitted, adoptedValue, result, newer, newest, news};
+ghost use Rattle.model.specs.Block.{equalsOwn, allEqualOwn, higher, greatest, secondCell};
+ghost use Rattle.model.specs.Block.{backsOwn, allBackOwn, sooner, firstCommitted, adoptedValue, result};
+ghost use Rattle.model.specs.Block.{newer, newest, news};
 use model::Cell;
 use model::Cue;
 use model::Value;

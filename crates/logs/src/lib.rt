@@ -1,13 +1,15 @@
 // Logs in a lent table: 2-byte records of issuer and number. What each function gives is defined in model's specs.
 ghost use mathlib.Core.Path.{_≡_};
-ghost use Prim.Native.Nat.{_+_, _*_, _≤_};
+ghost use Prim.Native.Nat.{_+_, _*_, _≤_, _<_};
 ghost use lib.ListN.{length};
 ghost use lib.Dec.{eqb};
-ghost use mathlib.Core.Bool.{cond};
+ghost use mathlib.Core.Bool.{cond, true};
 ghost use Rattle.model.specs.Record.{noCue, sameCue, entryAt, storeEntry};
-ghost use Rattle.model.specs.Table.{lengthFrom};
+ghost use Rattle.model.specs.Size.{sizeFits};
+ghost use Rattle.model.specs.Table.{lengthFrom, logStart};
 ghost use Rattle.model.specs.Settle.{ownCues, lastEntry};
 use model::Cue;
+use model::Size;
 
 // One of the "records of issuer and number".
 pub fn entry(table: &[u8], at: usize) -> Cue
@@ -95,4 +97,12 @@ pub fn last_entry(table: &[u8], start: usize, count: usize) -> Cue
         };
     }
     entry(table, start + (count - 1))
+}
+
+// "R per lane, the lanes of rack 0 first": the first record of a log.
+pub fn log_start(size: Size, rack: usize, lane: usize) -> usize
+    requires { ⌜ (sizeFits size ≡ true) × ((rack < size .racks) × (lane < size .lanes)) ⌝ }
+    ensures { λ i. ⌜ i ≡ logStart size rack lane ⌝ }
+{
+    (rack * size.lanes + lane) * size.rounds
 }
