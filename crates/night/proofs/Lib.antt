@@ -1,1 +1,3 @@
 pub mod Nights
+pub mod Refuted
+pub mod RightRules

@@ -4,25 +4,21 @@ use mathlib.Core.Bool.{Bool, true, false, _&&_}
 use Prim.Native.Nat.{ℕ, zero, suc, _+_, _-_}
 use lib.Dec.{eqb}
 use Prim.Native.String.{String}
-use lib.ListN.{length, getD}
+use lib.ListN.{length}
 use Rattle.laws.specs.Text.{ascii}
 use Rattle.model.specs.declared.Size.{Size}
 use Rattle.model.specs.declared.Cue.{Cue}
 use Rattle.model.specs.declared.Value.{Value}
 use Rattle.model.specs.declared.Cell.{Cell}
-use Rattle.model.specs.Size.{sizeFits, cellsLength, logsLength, decisionsLength, blockSteps, roundSteps}
-use Rattle.model.specs.Record.{noCue, noCell, sameCue, sameValue, sameCell, cellBytes, cellAt, storeCell, entryAt, storeEntry}
-use Rattle.model.specs.Table.{Card, cellIndex, logStart, lengthFrom, logLength, decisionIndex, rackAt, heldAt, resultAt}
-use Rattle.model.specs.Kind.{blockAt, placeAt, kindIn, kindOf, laneOf, blockOf, stepsIn, firstsRead, secondsRead}
-use Rattle.model.specs.Block.{equalsOwn, higher, greatest, secondCell, backsOwn, sooner, firstCommitted, adoptedValue, result, newer, newest, news}
-use Rattle.model.specs.Settle.{appendMissed, appendCommitted, ownCues, lastEntry, ownNext, nextHeld, settledRack, laneLog, settleLane, settleLanes, tooLong}
-use Rattle.model.specs.Step.{offersOf, proposal, firstWritten, afterFirstRead, secondWritten, secondGathered, blockEnded, afterSecondRead, isLast, answered, settled, secondReadTaken, stepBy, stepped, step}
-use Rattle.model.specs.Sound.{soundCue, soundValue, markFits, soundCell, soundRecord, soundSection, soundCells, soundDecisions, soundEntries, soundLog, soundLogs, soundClock, soundFirst, soundGathered, soundChoice, soundReadBack, soundWritten, soundOutcome, soundHeld, unusedLane, soundLane, soundRack, unusedRack, soundState, soundRacks, soundTables, sound}
-use Rattle.model.specs.Turn.{Outcome, fits, badRecord, finished, misnamed, notOffered, decidedElse, overfull, refusalOf, refusal, turned, soundness}
+use Rattle.model.specs.Size.{roundSteps}
+use Rattle.model.specs.Record.{sameCue, sameValue, sameCell, entryAt}
+use Rattle.model.specs.Table.{Card, logStart, logLength, rackAt, heldAt, resultAt}
+use Rattle.model.specs.Step.{afterSecondRead, answered, step}
+use Rattle.model.specs.Turn.{Outcome, turned}
 use Rattle.model.specs.Fresh.{table, freshCard, filled}
-use Rattle.model.specs.Cues.{listsLength, listsFit, listStart, codeAt, badCue, listed, addCue, codeIn}
-use Rattle.model.specs.Night.{after, replies, pieces}
-use Rattle.model.specs.Sheet.{sizeGiven, loadCues, sizeLine, refusedLines, takenIn, turnsLine, entryLine, entryLines, logLines, laneLines, rackLines, nightText, sheet}
+use Rattle.model.specs.Night.{after, replies}
+use Rattle.model.specs.Sheet.{sheet}
+use Rattle.night.specs.Opened.{rules}
 
 -- what may be said of a night
 pub data Claim : Type 0 where
@@ -93,8 +89,7 @@ module _ (s : Size) (turns : List (List ℕ)) (before : Card) (numbers : List �
 
 -- all that is said of the row's night comes of it
 unfoldable pub right : Row → Bool
-unfolding
-    flatten sizeFits cellsLength logsLength decisionsLength blockSteps roundSteps sameCue sameValue sameCell cellBytes cellAt storeCell entryAt storeEntry cellIndex logStart lengthFrom decisionIndex blockAt placeAt kindIn kindOf laneOf blockOf stepsIn firstsRead secondsRead equalsOwn higher greatest secondCell backsOwn sooner firstCommitted adoptedValue result newer newest news appendMissed appendCommitted ownCues lastEntry ownNext nextHeld settledRack laneLog settleLane settleLanes tooLong offersOf proposal firstWritten afterFirstRead secondWritten secondGathered blockEnded afterSecondRead isLast answered settled secondReadTaken stepBy stepped step soundCue soundValue markFits soundCell soundRecord soundSection soundCells soundDecisions soundEntries soundLog soundLogs soundClock soundFirst soundGathered soundChoice soundReadBack soundWritten soundOutcome soundHeld unusedLane soundLane soundRack unusedRack soundState soundRacks soundTables sound fits badRecord finished misnamed notOffered decidedElse overfull refusalOf refusal turned soundness table freshCard filled listsLength listsFit listStart codeAt badCue listed addCue codeIn after replies pieces sizeGiven loadCues sizeLine refusedLines takenIn turnsLine entryLine entryLines logLines laneLines rackLines nightText sheet
+unfolding rules
 right row =
     let before = after (row .size) (freshCard (row .size)) (row .turns) in
     let end = turned (row .size) before (row .last) in

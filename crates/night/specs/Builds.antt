@@ -1,0 +1,82 @@
+-- Builds that do not do the job: the useless ones, and the errors that look right.
+use mathlib.Core.List.{List}
+use mathlib.Core.Bool.{Bool, true, false, cond, not}
+use Prim.Native.Nat.{ℕ, suc, _+_, _-_}
+use lib.Dec.{eqb, ltb}
+use lib.ListN.{set}
+use Rattle.model.specs.declared.Size.{Size}
+use Rattle.model.specs.declared.Value.{Value}
+use Rattle.model.specs.declared.Cell.{Cell}
+use Rattle.model.specs.Record.{isCommitted}
+use Rattle.model.specs.Table.{Card, rackAt}
+use Rattle.model.specs.Step.{advanced, endingRound, isLast}
+use Rattle.model.specs.Kind.{laneOf}
+use Rattle.model.specs.Turn.{Outcome, rackOf, turned}
+use Rattle.night.specs.Machine.{Machine, card}
+use Rattle.night.specs.Rules.{Rules, rules01}
+
+-- a build that turns so, and is the card else
+abbrev pub turning : (Size → Card → List ℕ → Outcome) → Machine
+turning turn = record { fresh = card .fresh; turn = turn; finished = card .finished; length = card .length }
+
+-- "One that refuses each turn"
+abbrev pub refusesAll : Machine
+refusesAll = turning (λ s c turn. record { number = 4; card = c })
+
+-- "or takes it and does nothing"
+abbrev pub doesNothing : Machine
+doesNothing = turning (λ s c turn. record { number = 0; card = c })
+
+-- "One with constant empty logs"
+abbrev pub emptyLogs : Machine
+emptyLogs = record { fresh = card .fresh; turn = card .turn; finished = card .finished; length = λ s c rack lane. 0 }
+
+-- "One that works in round 1 and then idles": it goes on counting
+unfoldable pub idle : Size → Card → ℕ → Outcome
+idle s c rack =
+    let r = rackAt (c .racks) rack in
+    record { number = 0; card = record { tables = c .tables; racks = set (c .racks) rack (cond (isLast s r) (endingRound r) (advanced r)) } }
+
+unfoldable pub idling : Size → Card → List ℕ → Outcome
+idling s c turn =
+    let work = turned s c turn in
+    let rest = idle s c (rackOf turn) in
+    cond (ltb 1 (rackAt (c .racks) (rackOf turn) .round)) rest work
+
+abbrev pub idlesLater : Machine
+idlesLater = turning idling
+
+-- "One that invents taken, finished or length"
+abbrev pub inventsTaken : Machine
+inventsTaken = turning (λ s c turn. record { number = 0; card = turned s c turn .card })
+
+abbrev pub inventsFinished : Machine
+inventsFinished = record { fresh = card .fresh; turn = card .turn; finished = λ s c rack. suc (card .finished s c rack); length = card .length }
+
+abbrev pub inventsLength : Machine
+inventsLength = record { fresh = card .fresh; turn = card .turn; finished = card .finished; length = λ s c rack lane. suc (card .length s c rack lane) }
+
+-- "Running a committed value without comparing its place with the log"
+abbrev pub withoutPlace : Rules
+withoutPlace =
+    record { lane = laneOf; teller = rules01 .teller; compared = rules01 .compared; placed = false; again = rules01 .again }
+
+-- "Comparing with the value last held instead of the log length."
+abbrev pub lastHeld : Rules
+lastHeld =
+    record { lane = laneOf; teller = rules01 .teller; compared = λ L v. v .place; placed = true; again = rules01 .again }
+
+-- "Taking only the result's word for a missed cue."
+abbrev pub withoutNews : Rules
+withoutNews =
+    record { lane = laneOf; teller = λ c v. c .value; compared = rules01 .compared; placed = true; again = rules01 .again }
+
+-- "Visiting lanes in rising order although lane m was won"
+abbrev pub risingOrder : Rules
+risingOrder =
+    record { lane = λ first block. block; teller = rules01 .teller; compared = rules01 .compared; placed = true; again = rules01 .again }
+
+-- "Holding an already run value again after adopting it."
+abbrev pub heldAgain : Rules
+heldAgain =
+    record { lane = laneOf; teller = rules01 .teller; compared = rules01 .compared; placed = true; again = λ c. not (isCommitted c) }

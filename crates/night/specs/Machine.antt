@@ -1,0 +1,67 @@
+-- A machine of the card's types, and what happens on it in a night.
+use mathlib.Core.List.{List, [], _∷_, _++_}
+use mathlib.Core.Bool.{cond, _&&_}
+use Prim.Native.Nat.{ℕ, zero, suc, _+_, _*_, _-_}
+use lib.Dec.{eqb}
+use lib.ListN.{take, drop}
+use Rattle.model.specs.declared.Size.{Size}
+use Rattle.model.specs.declared.Cue.{Cue}
+use Rattle.model.specs.Record.{entryAt}
+use Rattle.model.specs.Table.{Card, logStart, logLength, rackAt}
+use Rattle.model.specs.Turn.{Outcome, rackOf, turned}
+use Rattle.model.specs.Fresh.{freshCard}
+
+-- what it starts from, what a turn does, and what it says of a card: the rounds that a rack has finished, and a log's length
+pub record Machine : Type 0 where
+  pub fresh : Size → Card
+  pub turn : Size → Card → List ℕ → Outcome
+  pub finished : Size → Card → ℕ → ℕ
+  pub length : Size → Card → ℕ → ℕ → ℕ
+
+-- the card of document 01
+abbrev pub card : Machine
+card =
+    record {
+      fresh = freshCard;
+      turn = turned;
+      finished = λ s c rack. rackAt (c .racks) rack .round - 1;
+      length = λ s c rack lane. logLength s (c .tables .logs) rack lane;
+    }
+
+module _ (M : Machine) (s : Size) where
+  -- the card after a list of turns, oldest first
+  unfoldable pub from : Card → List (List ℕ) → Card
+  from c [] = c
+  from c (turn ∷ turns) = from (M .turn s c turn .card) turns
+
+  abbrev pub reached : List (List ℕ) → Card
+  reached turns = from (M .fresh s) turns
+
+  -- how many of a rack's turns are taken
+  unfoldable pub takenFrom : Card → ℕ → List (List ℕ) → ℕ
+  takenFrom c rack [] = 0
+  takenFrom c rack (turn ∷ turns) =
+      let o = M .turn s c turn in
+      cond (eqb (o .number) 0 && eqb (rackOf turn) rack) 1 0 + takenFrom (o .card) rack turns
+
+  abbrev pub taken : ℕ → List (List ℕ) → ℕ
+  taken rack turns = takenFrom (M .fresh s) rack turns
+
+  -- a log's bytes
+  unfoldable pub logBytes : Card → ℕ → ℕ → List ℕ
+  logBytes c rack lane = take (2 * M .length s c rack lane) (drop (2 * logStart s rack lane) (c .tables .logs))
+
+  -- the entry at a place of a log
+  abbrev pub entryOf : Card → ℕ → ℕ → ℕ → Cue
+  entryOf c rack lane place = entryAt (c .tables .logs) (logStart s rack lane + place)
+
+  -- how many of the first entries of a log an issuer has
+  unfoldable pub cuesOf : Card → ℕ → ℕ → ℕ → ℕ → ℕ
+  cuesOf c rack lane issuer zero = 0
+  cuesOf c rack lane issuer (suc place) =
+      cuesOf c rack lane issuer place + cond (eqb (entryOf c rack lane place .issuer) issuer) 1 0
+
+  -- the entries in a rack's first lanes together
+  unfoldable pub entriesIn : Card → ℕ → ℕ → ℕ
+  entriesIn c rack zero = 0
+  entriesIn c rack (suc lane) = entriesIn c rack lane + M .length s c rack lane
