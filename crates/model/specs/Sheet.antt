@@ -41,6 +41,14 @@ loadCues n k lists i (cue ∷ cues) =
     let rest = loadCues n k (added .lists) (suc i) cues in
     cond (eqb (added .number) 0) rest (record { number = added .number; index = i; lists = lists })
 
+-- "prints `bad size` alone"
+unfoldable pub badSizeLine : List ℕ
+badSizeLine = line (ascii "bad" ∷ ascii "size" ∷ [])
+
+-- "the first bad cue record prints `bad cues` and its index from 0, alone"
+unfoldable pub badCuesLine : ℕ → List ℕ
+badCuesLine index = line (ascii "bad" ∷ ascii "cues" ∷ decimal index ∷ [])
+
 -- "the size line"
 unfoldable pub sizeLine : Size → List ℕ
 sizeLine s =
@@ -48,10 +56,13 @@ sizeLine s =
     (ascii "racks" ∷ decimal (s .racks) ∷ ascii "lanes" ∷ decimal (s .lanes) ∷ ascii "rounds" ∷ decimal (s .rounds) ∷ [])
 
 -- "for each refused turn `refused`, its index from 0, its number"
+unfoldable pub refusedLine : ℕ → ℕ → List ℕ
+refusedLine index number = line (ascii "refused" ∷ decimal index ∷ decimal number ∷ [])
+
 unfoldable pub refusedLines : ℕ → List ℕ → List ℕ
-refusedLines i [] = []
-refusedLines i (number ∷ numbers) =
-    cond (eqb number 0) [] (line (ascii "refused" ∷ decimal i ∷ decimal number ∷ [])) ++ refusedLines (suc i) numbers
+refusedLines index [] = []
+refusedLines index (number ∷ numbers) =
+    cond (eqb number 0) [] (refusedLine index number) ++ refusedLines (suc index) numbers
 
 -- how many of the replies are 0
 unfoldable pub takenIn : List ℕ → ℕ
@@ -59,51 +70,48 @@ takenIn [] = 0
 takenIn (number ∷ numbers) = cond (eqb number 0) 1 0 + takenIn numbers
 
 -- "a line of turns read, taken and refused"
-unfoldable pub turnsLine : List ℕ → List ℕ
-turnsLine numbers =
+unfoldable pub turnsLine : ℕ → ℕ → ℕ → List ℕ
+turnsLine read taken refused =
     line
-    (ascii "turns"
-    ∷ decimal (length numbers)
-    ∷ ascii "taken"
-    ∷ decimal (takenIn numbers)
-    ∷ ascii "refused"
-    ∷ decimal (length numbers - takenIn numbers)
+    (ascii "turns" ∷ decimal read ∷ ascii "taken" ∷ decimal taken ∷ ascii "refused" ∷ decimal refused ∷ [])
+
+-- "`log`, rack, lane, `finished` rounds, `length`"
+unfoldable pub logLine : ℕ → ℕ → ℕ → ℕ → List ℕ
+logLine rack lane finished length =
+    line
+    (ascii "log"
+    ∷ decimal rack
+    ∷ decimal lane
+    ∷ ascii "finished"
+    ∷ decimal finished
+    ∷ ascii "length"
+    ∷ decimal length
     ∷ [])
+
+-- "each entry: place, issuer, number, code"
+unfoldable pub entryLine : ℕ → ℕ → ℕ → ℕ → List ℕ
+entryLine place issuer number code = line (decimal place ∷ decimal issuer ∷ decimal number ∷ decimal code ∷ [])
 
 module _ (s : Size) (lists : List ℕ) (card : Card) where
   -- the cue at a place of a log
   abbrev pub entry : ℕ → ℕ → ℕ → Cue
   entry rack lane place = entryAt (card .tables .logs) (logStart s rack lane + place)
 
-  -- "each entry: place, issuer, number, code"
-  unfoldable pub entryLine : ℕ → ℕ → ℕ → List ℕ
-  entryLine rack lane place =
+  -- the line of an entry; "The code is looked up when a sheet is printed"
+  unfoldable pub lineAt : ℕ → ℕ → ℕ → List ℕ
+  lineAt rack lane place =
       let c = entry rack lane place in
-      line
-      (decimal place
-      ∷ decimal (c .issuer)
-      ∷ decimal (c .number)
-      ∷ decimal (codeIn (s .lanes) lists (c .issuer) lane (c .number))
-      ∷ [])
+      entryLine place (c .issuer) (c .number) (codeIn (s .lanes) lists (c .issuer) lane (c .number))
 
   unfoldable pub entryLines : ℕ → ℕ → ℕ → List ℕ
   entryLines rack lane zero = []
-  entryLines rack lane (suc place) = entryLines rack lane place ++ entryLine rack lane place
+  entryLines rack lane (suc place) = entryLines rack lane place ++ lineAt rack lane place
 
-  -- "`log`, rack, lane, `finished` rounds, `length`, and under it each entry"
+  -- "and under it each entry"
   unfoldable pub logLines : ℕ → ℕ → List ℕ
   logLines rack lane =
       let L = logLength s (card .tables .logs) rack lane in
-      line
-      (ascii "log"
-      ∷ decimal rack
-      ∷ decimal lane
-      ∷ ascii "finished"
-      ∷ decimal (rackAt (card .racks) rack .round - 1)
-      ∷ ascii "length"
-      ∷ decimal L
-      ∷ [])
-      ++ entryLines rack lane L
+      logLine rack lane (rackAt (card .racks) rack .round - 1) L ++ entryLines rack lane L
 
   -- "then for each rack and lane"
   unfoldable pub laneLines : ℕ → ℕ → List ℕ
@@ -119,14 +127,15 @@ unfoldable pub nightText : Size → List ℕ → List (List ℕ) → List ℕ
 nightText s lists turns =
     let numbers = replies s (freshCard s) turns in
     sizeLine s
-    ++ (refusedLines 0 numbers ++ (turnsLine numbers ++ rackLines s lists (after s (freshCard s) turns) (s .racks)))
+    ++ (refusedLines 0 numbers
+    ++ (turnsLine (length numbers) (takenIn numbers) (length numbers - takenIn numbers)
+    ++ rackLines s lists (after s (freshCard s) turns) (s .racks)))
 
--- "prints `bad size` alone; the first bad cue record prints `bad cues` and its index from 0, alone"
+-- the whole text, from size.rec, cues.rec and turns.rec
 unfoldable pub sheet : List ℕ → List ℕ → List ℕ → List ℕ
 sheet size cues turns =
     let s = sizeOf size in
     let loaded = loadCues (s .racks) (s .lanes) (replicate (listsLength (s .racks) (s .lanes)) 0) 0 (pieces cues) in
-    let badCues = line (ascii "bad" ∷ ascii "cues" ∷ decimal (loaded .index) ∷ []) in
     let text = nightText s (loaded .lists) (pieces turns) in
-    let judged = cond (eqb (loaded .number) 0) text badCues in
-    cond (sizeGiven size) judged (line (ascii "bad" ∷ ascii "size" ∷ []))
+    let judged = cond (eqb (loaded .number) 0) text (badCuesLine (loaded .index)) in
+    cond (sizeGiven size) judged badSizeLine

@@ -12,10 +12,10 @@ use Rattle.model.specs.Turn.{fits, badRecord, finished, misnamed, notOffered, d
 use Rattle.model.specs.Fresh.{table, freshCard, filled}
 use Rattle.model.specs.Cues.{listsLength, listsFit, listStart, codeAt, badCue, listed, addCue, codeIn}
 use Rattle.model.specs.Night.{after, replies, pieces}
-use Rattle.model.specs.Sheet.{sizeGiven, loadCues, sizeLine, refusedLines, takenIn, turnsLine, entryLine, entryLines, logLines, laneLines, rackLines, nightText, sheet}
+use Rattle.model.specs.Sheet.{sizeGiven, loadCues, badSizeLine, badCuesLine, sizeLine, refusedLine, refusedLines, takenIn, turnsLine, logLine, entryLine, lineAt, entryLines, logLines, laneLines, rackLines, nightText, sheet}
 use mathlib.Core.Bool.{Bool, true}
 
 unfoldable pub rules : Bool
 unfolding
-    flatten sizeFits cellsLength logsLength decisionsLength blockSteps roundSteps sameCue sameValue sameCell cellBytes cellAt storeCell entryAt storeEntry cellIndex logStart lengthFrom decisionIndex blockAt placeAt kindIn kindOf laneOf blockOf stepsIn firstsRead secondsRead equalsOwn higher greatest secondCell backsOwn sooner firstCommitted adoptedValue result newer newest news appendMissed appendCommitted ownCues lastEntry ownNext nextHeld settledRack laneLog settleLane settleLanes tooLong offersOf proposal firstWritten afterFirstRead secondWritten secondGathered blockEnded afterSecondRead isLast answered settled secondReadTaken stepBy stepped step soundCue soundValue markFits soundCell soundRecord soundSection soundCells soundDecisions soundEntries soundLog soundLogs soundClock soundFirst soundGathered soundChoice soundReadBack soundWritten soundOutcome soundHeld unusedLane soundLane soundRack unusedRack soundState soundRacks soundTables sound fits badRecord finished misnamed notOffered decidedElse overfull refusalOf refusal turned soundness table freshCard filled listsLength listsFit listStart codeAt badCue listed addCue codeIn after replies pieces sizeGiven loadCues sizeLine refusedLines takenIn turnsLine entryLine entryLines logLines laneLines rackLines nightText sheet
+    flatten sizeFits cellsLength logsLength decisionsLength blockSteps roundSteps sameCue sameValue sameCell cellBytes cellAt storeCell entryAt storeEntry cellIndex logStart lengthFrom decisionIndex blockAt placeAt kindIn kindOf laneOf blockOf stepsIn firstsRead secondsRead equalsOwn higher greatest secondCell backsOwn sooner firstCommitted adoptedValue result newer newest news appendMissed appendCommitted ownCues lastEntry ownNext nextHeld settledRack laneLog settleLane settleLanes tooLong offersOf proposal firstWritten afterFirstRead secondWritten secondGathered blockEnded afterSecondRead isLast answered settled secondReadTaken stepBy stepped step soundCue soundValue markFits soundCell soundRecord soundSection soundCells soundDecisions soundEntries soundLog soundLogs soundClock soundFirst soundGathered soundChoice soundReadBack soundWritten soundOutcome soundHeld unusedLane soundLane soundRack unusedRack soundState soundRacks soundTables sound fits badRecord finished misnamed notOffered decidedElse overfull refusalOf refusal turned soundness table freshCard filled listsLength listsFit listStart codeAt badCue listed addCue codeIn after replies pieces sizeGiven loadCues badSizeLine badCuesLine sizeLine refusedLine refusedLines takenIn turnsLine logLine entryLine lineAt entryLines logLines laneLines rackLines nightText sheet
 rules = true
