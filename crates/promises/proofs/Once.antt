@@ -1,0 +1,69 @@
+-- Every public call's promise determines its outcome: "any two outcomes the promise admits are proved equal". A promise is an equation, so one
+-- law does it for all calls; an outcome is the reply and every byte of lent storage afterwards.
+use mathlib.Core.Path.{_≡_, sym, ap, _∙_}
+use mathlib.Core.List.{List}
+use mathlib.Core.Bool.{Bool}
+use Prim.Native.Nat.{ℕ}
+use denote.Ref.{RefT, now}
+use Rattle.laws.proofs.Cases.{either, bool}
+use Rattle.model.specs.declared.Size.{Size}
+use Rattle.model.specs.declared.Entry.{Entry}
+use Rattle.model.specs.declared.Code.{Code}
+use Rattle.model.specs.declared.Piece.{Piece}
+use Rattle.model.specs.Table.{Tables, Card}
+use Rattle.model.specs.Turn.{Outcome, turned, soundness}
+use Rattle.model.specs.Fresh.{filled}
+use Rattle.model.specs.Logs.{logEntry, agree, longer}
+use Rattle.model.specs.Cues.{Listed, addCue, codeOf}
+use Rattle.model.specs.Night.{pieceAt}
+use Rattle.compare.specs.Itself.{longerItself}
+
+-- the law
+once : {O : Type 0} {promised o o′ : O} → o ≡ promised → o′ ≡ promised → o ≡ o′
+once p q = p ∙ sym q
+
+-- fresh: the reply, the racks, and the three tables
+pub fresh-once : (s : Size) (t : Tables) (o o′ : Outcome) → o ≡ filled s t → o′ ≡ filled s t → o ≡ o′
+fresh-once s t o o′ p q = once p q
+
+-- turn: the reply, the racks, and the three tables
+pub turn-once : (s : Size) (c : Card) (turn : List ℕ) (o o′ : Outcome) → o ≡ turned s c turn → o′ ≡ turned s c turn → o ≡ o′
+turn-once s c turn o o′ p q = once p q
+
+-- sound: the reply; nothing is lent for writing
+pub sound-once : (s : Size) (c : Card) (o o′ : ℕ) → o ≡ soundness s c → o′ ≡ soundness s c → o ≡ o′
+sound-once s c o o′ p q = once p q
+
+-- log entry
+pub entry-once : (s : Size) (logs : List ℕ) (rack lane place : ℕ) (o o′ : Entry)
+    → o ≡ logEntry s logs rack lane place → o′ ≡ logEntry s logs rack lane place → o ≡ o′
+entry-once s logs rack lane place o o′ p q = once p q
+
+-- agree, and the bytes that longer hands back
+pub agree-once : (a b : List ℕ) (o o′ : Bool) → o ≡ agree a b → o′ ≡ agree a b → o ≡ o′
+agree-once a b o o′ p q = once p q
+
+pub longer-once : (a b o o′ : List ℕ) → o ≡ longer a b → o′ ≡ longer a b → o ≡ o′
+longer-once a b o o′ p q = once p q
+
+-- and the log itself: where it begins, whatever name the logic gives a part
+same-part : (a b : RefT (List ℕ)) (x y : ℕ) → longerItself a b x .ptr ≡ longerItself a b y .ptr
+unfolding longerItself
+same-part a b x y = either (bool (agree (now a) (now b))) (λ t. rw t) (λ f. rw f)
+
+pub longer-itself-once : (a b o o′ : RefT (List ℕ)) → o ≡ longerItself a b (o .name) → o′ ≡ longerItself a b (o′ .name) → o .ptr ≡ o′ .ptr
+longer-itself-once a b o o′ p q =
+    ap (λ (r : RefT (List ℕ)). r .ptr) p ∙ same-part a b (o .name) (o′ .name) ∙ sym (ap (λ (r : RefT (List ℕ)). r .ptr) q)
+
+-- the next turn record
+pub piece-once : (bytes : List ℕ) (at : ℕ) (o o′ : Piece) → o ≡ pieceAt bytes at → o′ ≡ pieceAt bytes at → o ≡ o′
+piece-once bytes at o o′ p q = once p q
+
+-- a cue record: the reply and the lists
+pub add-cue-once : (n k : ℕ) (lists cue : List ℕ) (o o′ : Listed) → o ≡ addCue n k lists cue → o′ ≡ addCue n k lists cue → o ≡ o′
+add-cue-once n k lists cue o o′ p q = once p q
+
+-- the code of a cue
+pub code-once : (n k : ℕ) (lists : List ℕ) (rack lane number : ℕ) (o o′ : Code)
+    → o ≡ codeOf n k lists rack lane number → o′ ≡ codeOf n k lists rack lane number → o ≡ o′
+code-once n k lists rack lane number o o′ p q = once p q
