@@ -1,3 +1,5 @@
 pub mod Nights
 pub mod Refuted
 pub mod RightRules
+pub mod View
+pub mod Demand
