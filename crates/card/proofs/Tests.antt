@@ -1,13 +1,13 @@
 -- Tests 1 and 2: a card that passes them may be played on, and a turn on one that does not is refused with the test's number.
-use mathlib.Core.Path.{_≡_, refl, sym, ap, _∙_}
+use mathlib.Core.Path.{_≡_}
 use mathlib.Core.List.{List}
-use mathlib.Core.Bool.{Bool, true, false, not, cond}
+use mathlib.Core.Bool.{true}
 use Prim.Native.Nat.{ℕ}
 use native.Mathlib.Omega.{arith}
 use Rattle.laws.proofs.Cases.{either, bool}
 use Rattle.model.specs.declared.Size.{Size}
 use Rattle.model.specs.Table.{Tables, Card}
-use Rattle.model.specs.Turn.{Outcome, fits, refusal, turned, soundness}
+use Rattle.model.specs.Turn.{fits, refusal, turned, soundness}
 use Rattle.model.specs.Sound.{sound}
 use Rattle.model.proofs.Sizes.{fits-size, fits-exact}
 use Rattle.sound.specs.Lent.{Lent}

@@ -1,7 +1,6 @@
 -- The products in the place of a cell, bounded: the record's place lies in the table, and nothing on the way to it wraps.
 use mathlib.Core.Path.{_≡_}
 use mathlib.Core.List.{List}
-use mathlib.Core.Bool.{true}
 use Prim.Native.Nat.{ℕ, _+_, _*_, _-_, _≤_, _<_}
 use native.Mathlib.Omega.{arith}
 use native.Mathlib.Nat.{add-mul}
@@ -10,7 +9,7 @@ use Rattle.laws.proofs.Index.{cell-below, product-le}
 use Rattle.model.specs.declared.Size.{Size}
 use Rattle.model.specs.Size.{records, cellsLength}
 use Rattle.model.specs.Table.{cellIndex}
-use Rattle.model.proofs.Table.{Spot, spot-below}
+use Rattle.model.proofs.Table.{spot-below}
 use Rattle.cells.specs.Here.{Here}
 use Rattle.model.proofs.Sizes.{sizes, rows-most, records-most}
 

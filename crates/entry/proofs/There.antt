@@ -2,10 +2,9 @@
 use mathlib.Core.Path.{_≡_}
 use mathlib.Core.List.{List}
 use mathlib.Core.Bool.{true, false, _&&_}
-use Prim.Native.Nat.{ℕ, _≤_, _<_}
+use Prim.Native.Nat.{ℕ, _<_}
 use borrow.Author.Tests.{ltb-true, leb-true, leb-false, lt-ltb, le-ltb, eqb-true}
 use lib.Dec.{ltb, leb, eqb}
-use lib.ListN.{length}
 use Rattle.laws.proofs.Cases.{and-true}
 use Rattle.model.specs.declared.Size.{Size}
 use Rattle.model.specs.Size.{sizeFits, logsLength}

@@ -3,8 +3,9 @@ use mathlib.Core.Path.{_≡_}
 use Prim.Native.Nat.{ℕ, _+_, _*_, _-_, _≤_, _<_}
 use native.Mathlib.Omega.{arith}
 use native.Mathlib.Nat.{mod-lt, div-add-mod', div-lt-iff-lt-mul}
-use borrow.Author.Tests.{lt-ltb, le-ltb, le-leb, lt-leb, eq-eqb, ne-eqb}
+use borrow.Author.Tests.{lt-ltb, le-ltb, eq-eqb, ne-eqb}
 use Rattle.laws.proofs.Cases.{either, eq-or-ne, lt-or-ge}
+use Rattle.model.proofs.Order.{lane-below}
 use Rattle.laws.proofs.Index.{product-le}
 use Rattle.model.specs.declared.Size.{Size}
 use Rattle.model.specs.declared.Kind.{Kind}
@@ -44,17 +45,8 @@ module _ (s : Size) where
       let b = product-le {a = 1} {b = 1} {x = s .lanes} {y = blockSteps s} h steps-some in
       div-lt-iff-lt-mul {k = blockSteps s} {x = step - 2} {y = s .lanes} steps-some .1 (omega arith)
 
-  pub lane-below : (first block : ℕ) → first < s .lanes → block < s .lanes → laneOf first block < s .lanes
-  unfolding laneOf
-  lane-below first block h g =
-      either (eq-or-ne block 0)
-      (λ (e : block ≡ 0). rw (eq-eqb block 0 e) h)
-      (λ n. either (lt-or-ge first block)
-      (λ l. rw (ne-eqb block 0 n, lt-leb block first l) g)
-      (λ l. rw (ne-eqb block 0 n, le-leb block first l) (omega arith)))
-
   pub lane-at-below : (first step : ℕ) → 1 ≤ s .lanes → first < s .lanes → step < roundSteps s → laneOf first (blockAt s step) < s .lanes
-  lane-at-below first step h g l = lane-below first (blockAt s step) g (block-below step h l)
+  lane-at-below first step h g l = lane-below first (s .lanes) (blockAt s step) g (block-below step h l)
 
 pub block-of-most : (first lane : ℕ) → blockOf first lane ≤ lane + 1
 unfolding blockOf

@@ -2,3 +2,4 @@ pub mod Same
 pub mod Sizes
 pub mod Record
 pub mod Table
+pub mod Order

@@ -1,19 +1,19 @@
 -- Laws of the records: what callers use in the place of the definitions' text.
-use mathlib.Core.Path.{_≡_, refl, sym, ap, _∙_}
+use mathlib.Core.Path.{_≡_, sym, _∙_}
 use mathlib.Core.List.{List, [], _∷_, _++_}
 use mathlib.Core.Logic.{_⊎_, inl, inr, _≢_}
-use mathlib.Core.Bool.{Bool, true, _&&_}
-use Prim.Native.Nat.{ℕ, zero, suc, _+_, _*_, _≤_, _<_}
+use mathlib.Core.Bool.{true, _&&_}
+use Prim.Native.Nat.{ℕ, _+_, _*_, _≤_, _<_}
 use native.Mathlib.Omega.{arith}
 use native.Mathlib.Nat.{add-zero}
 use lib.Dec.{lit<, eqb}
 use lib.ListN.{length, getD, take, drop}
 use lib.Seq.{sets, length-sets, getD-drop}
-use Rattle.laws.proofs.Cases.{either, lt-or-ge, true-and}
+use Rattle.laws.proofs.Cases.{either, lt-or-ge}
 use Rattle.laws.proofs.Runs.{sets-in, sets-out, sets-part}
 use Rattle.model.specs.declared.Cue.{Cue}
 use Rattle.model.specs.declared.Cell.{Cell}
-use Rattle.model.specs.Record.{cellBytes, cellOf, cellAt, storeCell, spareZero, entryAt, storeEntry}
+use Rattle.model.specs.Record.{cellBytes, cellAt, storeCell, spareZero, entryAt, storeEntry}
 
 -- a number other than i is below or above it
 apart : (k i : ℕ) → k ≢ i → (k < i) ⊎ (i < k)

@@ -1,9 +1,8 @@
 -- Where each record stands: within its table, and no two at one place.
-use mathlib.Core.Path.{_≡_, refl, sym, ap, _∙_}
-use mathlib.Core.Logic.{_⊎_, inl, inr, _≢_}
-use Prim.Native.Nat.{ℕ, zero, suc, _+_, _*_, _-_, _≤_, _<_}
+use mathlib.Core.Path.{_≡_, sym, ap, _∙_}
+use Prim.Native.Nat.{ℕ, _+_, _*_, _-_, _≤_, _<_}
 use native.Mathlib.Omega.{arith}
-use native.Mathlib.Nat.{mul-comm, mul-assoc, add-mul, mul-add}
+use native.Mathlib.Nat.{mul-comm, mul-assoc}
 use Rattle.laws.proofs.Index.{cell-below, same-row, same-column}
 use Rattle.model.specs.declared.Size.{Size}
 use Rattle.model.specs.Size.{records, cellsLength, logsLength, decisionsLength}

@@ -1,7 +1,7 @@
 -- Cue lists: a lent table of 128·k·n bytes, records of a code (low byte first), 64 per lane, the lanes of rack 0 first, 0 past a list's end.
 use mathlib.Core.List.{List, [], _∷_}
 use mathlib.Core.Bool.{Bool, cond, not, _&&_, _||_}
-use Prim.Native.Nat.{ℕ, zero, suc, _+_, _*_, _-_}
+use Prim.Native.Nat.{ℕ, zero, suc, _+_, _*_}
 use lib.Dec.{eqb, ltb, leb}
 use lib.ListN.{length, getD, drop}
 use lib.Seq.{sets}

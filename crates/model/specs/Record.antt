@@ -1,7 +1,7 @@
 -- The bytes of each record.
 use mathlib.Core.List.{List, [], _∷_}
 use mathlib.Core.Bool.{Bool, _&&_}
-use Prim.Native.Nat.{ℕ, _+_, _*_}
+use Prim.Native.Nat.{ℕ, _*_}
 use lib.ListN.{getD, drop}
 use lib.Seq.{sets}
 use lib.Dec.{eqb}

@@ -15,7 +15,7 @@ use Rattle.model.specs.Record.{noValue, noCell, offered}
 use Rattle.model.specs.Table.{Tables, Card, offers, firstCells, secondCells, writeCell, cellNow, noLane, decisionIndex, decisionAt, rackAt, heldAt}
 use Rattle.model.specs.Kind.{kindOf, placeAt, laneAt, firstRead, secondRead}
 use Rattle.model.specs.Block.{secondCell, result, news}
-use Rattle.model.specs.Settle.{Settled, settleLanes}
+use Rattle.model.specs.Settle.{settleLanes}
 
 -- one step on
 abbrev pub advanced : Rack → Rack

@@ -4,9 +4,7 @@ pub mod Begins
 pub mod Numbers
 pub mod DemandThree
 pub mod Admitted
-pub mod Fold
-pub mod Outcomes
-pub mod Shown
+pub mod Marks
 pub mod Work
 pub mod LastRead
 pub mod Lasting

@@ -1,7 +1,7 @@
 -- Nights of document 01, computed: every row of the table is right. Each row is computed by itself, since one computation has a limit.
 use mathlib.Core.Path.{_≡_, refl}
 use mathlib.Core.Bool.{true}
-use Rattle.night.specs.Row.{Row, right, allRight}
+use Rattle.night.specs.Row.{right, allRight}
 use Rattle.night.specs.Rows.{rows, P1, P2, P3, P4-none, P4-most, P4-over, P5-most, P5-over, P6, P7, P8, P9, P10-before, P10, P11-before, P11, P12, example}
 
 right-P1 : right P1 ≡ true

@@ -1,21 +1,18 @@
 -- No useless build and none of the errors that look right meets the demands: each fails on a night that is computed here.
 use mathlib.Core.Path.{_≡_, refl, ap}
 use mathlib.Core.List.{List, [], _∷_, _++_}
-use mathlib.Core.Bool.{true}
-use Prim.Native.Nat.{ℕ, _≤_, _<_}
+use Prim.Native.Nat.{ℕ, _≤_}
 use native.Mathlib.Omega.{arith}
 use lib.Dec.{lit<, lit≤}
-use Rattle.model.specs.declared.Size.{Size}
-use Rattle.model.specs.Size.{sizeFits}
 use Rattle.model.specs.Turn.{Outcome}
 use Rattle.model.specs.Table.{logLength}
 use Rattle.night.specs.Opened.{rules}
-use Rattle.night.specs.Machine.{Machine, from, takenFrom, logBytes, cuesOf, entriesIn}
+use Rattle.night.specs.Machine.{from, takenFrom, cuesOf, entriesIn}
 use Rattle.night.specs.Demands.{Demand2, Demand3, Demands}
 use Rattle.night.specs.Rules.{laneBy, lanesBy, readBy, stepWith, refusalWith, turnWith, buildWith}
 use Rattle.night.specs.Builds.{refusesAll, doesNothing, emptyLogs, idle, idling, idlesLater, inventsTaken, inventsFinished, inventsLength, withoutPlace, lastHeld, withoutNews, risingOrder, heldAgain}
 use Rattle.night.specs.Rows.{turn, answer, begun, bothFirst}
-use Rattle.night.specs.Refuting.{turns, alone, round, pair, committedAgain, olderValue, comeUpon, runBefore}
+use Rattle.night.specs.Refuting.{alone, round, pair, committedAgain, olderValue, comeUpon, runBefore}
 
 -- "One that refuses each turn, or takes it and does nothing: shut out by demand 2, as the refusal table says exactly when."
 no-refusesAll : Demand2 refusesAll → ⊥

@@ -1,5 +1,5 @@
 -- With the rules of document 01 a build that leaves rules open takes the card's own steps: an error differs from the card in its one rule.
-use mathlib.Core.Path.{_≡_, refl, ap}
+use mathlib.Core.Path.{_≡_, refl}
 use mathlib.Core.List.{List}
 use Prim.Native.Nat.{ℕ, zero, suc}
 use Rattle.model.specs.declared.Size.{Size}
@@ -7,7 +7,7 @@ use Rattle.model.specs.declared.Rack.{Rack}
 use Rattle.model.specs.declared.Kind.{Kind}
 use Rattle.model.specs.declared.Kind.the-variants.{Offer, Answer, FirstWrite, FirstRead, SecondWrite, SecondRead}
 use Rattle.model.specs.Table.{Tables}
-use Rattle.model.specs.Settle.{Settled, appendMissed, appendCommitted, nextHeld, settledRack, laneLog, settleLane, settleLanes}
+use Rattle.model.specs.Settle.{appendMissed, appendCommitted, nextHeld, settledRack, laneLog, settleLane, settleLanes}
 use Rattle.model.specs.Step.{proposal, firstWritten, afterFirstRead, secondWritten, secondGathered, blockEnded, afterSecondRead, settled, secondReadTaken, stepBy}
 use Rattle.night.specs.Rules.{rules01, laneBy, lanesBy, readBy, stepWith}
 

@@ -1,12 +1,10 @@
 -- Builds that do not do the job: the useless ones, and the errors that look right.
 use mathlib.Core.List.{List}
-use mathlib.Core.Bool.{Bool, true, false, cond, not}
-use Prim.Native.Nat.{ℕ, suc, _+_, _-_}
-use lib.Dec.{eqb, ltb}
+use mathlib.Core.Bool.{true, false, cond, not}
+use Prim.Native.Nat.{ℕ, suc}
+use lib.Dec.{ltb}
 use lib.ListN.{set}
 use Rattle.model.specs.declared.Size.{Size}
-use Rattle.model.specs.declared.Value.{Value}
-use Rattle.model.specs.declared.Cell.{Cell}
 use Rattle.model.specs.Record.{isCommitted}
 use Rattle.model.specs.Table.{Card, rackAt}
 use Rattle.model.specs.Step.{advanced, endingRound, isLast}

@@ -2,20 +2,19 @@
 use mathlib.Core.Path.{_≡_}
 use mathlib.Core.List.{List, [], _∷_, _++_}
 use mathlib.Core.Logic.{_⊎_, _↔_}
-use mathlib.Core.Bool.{Bool, true, false, cond}
+use mathlib.Core.Bool.{true, false, cond}
 use Prim.Native.Nat.{ℕ, suc, _+_, _-_, _/_, _≤_, _<_}
 use lib.Dec.{ltb, eqb}
 use Rattle.model.specs.declared.Size.{Size}
 use Rattle.model.specs.declared.Value.{Value}
 use Rattle.model.specs.declared.Cell.{Cell}
-use Rattle.model.specs.declared.Rack.{Rack}
 use Rattle.model.specs.declared.Kind.the-variants.{SecondRead}
 use Rattle.model.specs.Size.{sizeFits, blockSteps, roundSteps}
 use Rattle.model.specs.Record.{noCell, offered, isEmpty, isCommitted}
 use Rattle.model.specs.Table.{Card, offers, firstCells, readCell, undecided, decisionAt, rackAt, resultAt, newsAt}
 use Rattle.model.specs.Kind.{kindOf, placeAt, laneAt, secondRead, stepsIn}
 use Rattle.model.specs.Step.{afterSecondRead}
-use Rattle.model.specs.Turn.{rackOf, laneNamed, sourceNamed, turned}
+use Rattle.model.specs.Turn.{rackOf, turned}
 use Rattle.model.specs.Fresh.{freshCard}
 use Rattle.model.specs.Logs.{oneBegins}
 use Rattle.night.specs.Machine.{Machine, reached, taken, logBytes, entryOf, cuesOf, entriesIn}

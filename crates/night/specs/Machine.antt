@@ -1,5 +1,5 @@
 -- A machine of the card's types, and what happens on it in a night.
-use mathlib.Core.List.{List, [], _∷_, _++_}
+use mathlib.Core.List.{List, [], _∷_}
 use mathlib.Core.Bool.{cond, _&&_}
 use Prim.Native.Nat.{ℕ, zero, suc, _+_, _*_, _-_}
 use lib.Dec.{eqb}

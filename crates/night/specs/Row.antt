@@ -13,9 +13,9 @@ use Rattle.model.specs.declared.Cell.{Cell}
 use Rattle.model.specs.Size.{roundSteps}
 use Rattle.model.specs.Record.{sameCue, sameValue, sameCell, entryAt}
 use Rattle.model.specs.Table.{Card, logStart, logLength, rackAt, heldAt, resultAt}
-use Rattle.model.specs.Step.{afterSecondRead, answered, step}
+use Rattle.model.specs.Step.{afterSecondRead, step}
 use Rattle.model.specs.Turn.{Outcome, turned}
-use Rattle.model.specs.Fresh.{table, freshCard, filled}
+use Rattle.model.specs.Fresh.{freshCard, filled}
 use Rattle.model.specs.Night.{after, replies}
 use Rattle.model.specs.Sheet.{sheet}
 use Rattle.night.specs.Opened.{rules}

@@ -6,7 +6,7 @@ use Rattle.model.specs.declared.Size.{Size}
 use Rattle.model.specs.declared.Cue.{Cue}
 use Rattle.model.specs.declared.Value.{Value}
 use Rattle.model.specs.Record.{noCue, adopted, committed}
-use Rattle.night.specs.Row.{Row, Claim, answers, results, logs, holds, clock, fills, steps, prints}
+use Rattle.night.specs.Row.{Row, answers, results, logs, holds, clock, fills, steps, prints}
 
 -- n racks, k lanes, R rounds
 abbrev pub sized : ℕ → ℕ → ℕ → Size

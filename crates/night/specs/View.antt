@@ -17,7 +17,7 @@ use Rattle.model.specs.Record.{noCue, noValue, noCell, offered, adopted, commit
 use Rattle.model.specs.Table.{Card, offers, firstCells, secondCells, readCell, logStart, logLength, undecided, noLane, decisionAt, rackAt, heldAt, resultAt, newsAt, firstAt, secondAt}
 use Rattle.model.specs.Kind.{laneAt}
 use Rattle.model.specs.Turn.{rackOf, laneNamed, sourceNamed, turned}
-use Rattle.protocol.specs.Object.{Object, taken}
+use Rattle.protocol.specs.Object.{taken}
 use Rattle.protocol.specs.AdoptCommit.{Marked}
 use Rattle.protocol.specs.Edition.{result, newsOf}
 use Rattle.protocol.specs.FirstEdition.{first-edition}

@@ -1,20 +1,20 @@
 -- A turn on a card that fits and is sound, case by case: what `turned` is when the record is bad, when a later test refuses, and when it is taken.
-use mathlib.Core.Path.{_≡_, refl, sym, ap, _∙_}
+use mathlib.Core.Path.{_≡_}
 use mathlib.Core.List.{List}
-use mathlib.Core.Bool.{Bool, true, false, not, cond, _&&_, _||_}
-use Prim.Native.Nat.{ℕ, _≤_, _<_}
+use mathlib.Core.Bool.{true, false, not, _&&_, _||_}
+use Prim.Native.Nat.{ℕ, _<_}
 use native.Mathlib.Omega.{arith}
-use borrow.Author.Tests.{eqb-true, ne-eqb, eq-eqb, leb-false, lt-ltb, not-false}
-use lib.Dec.{eqb, ltb, leb}
+use borrow.Author.Tests.{eqb-true, ne-eqb, leb-false, lt-ltb, not-false}
+use lib.Dec.{eqb, leb}
 use lib.ListN.{length, getD, set}
 use Rattle.laws.proofs.Cases.{and-true, or-false}
 use Rattle.laws.proofs.Below.{below-at}
 use Rattle.model.specs.declared.Size.{Size}
 use Rattle.model.specs.declared.Rack.{Rack}
-use Rattle.model.specs.Table.{Tables, Card, rackAt}
+use Rattle.model.specs.Table.{Card, rackAt}
 use Rattle.model.specs.Step.{After, stepped, step}
-use Rattle.model.specs.Sound.{soundCells, soundDecisions, soundLogs, soundTables, soundRack, unusedRack, soundState, soundRacks, sound}
-use Rattle.model.specs.Turn.{Outcome, fits, badRecord, rackOf, laneNamed, sourceNamed, refusalOf, refusal, turned}
+use Rattle.model.specs.Sound.{soundCells, soundDecisions, soundLogs, soundTables, soundRack, soundState, soundRacks, sound}
+use Rattle.model.specs.Turn.{badRecord, rackOf, laneNamed, sourceNamed, refusalOf, refusal, turned}
 use Rattle.model.proofs.Sizes.{sizes, fits-size}
 use Rattle.step.specs.Ready.{Tested}
 use Rattle.step.proofs.Ready.{tested}

@@ -1,24 +1,21 @@
 -- "A refusal returns its number and zeros; tables, states and lists stay as before."
-use mathlib.Core.Path.{_≡_, refl, sym, ap, _∙_}
+use mathlib.Core.Path.{_≡_, refl}
 use mathlib.Core.List.{List}
-use mathlib.Core.Bool.{Bool, true, false}
 use Prim.Native.Nat.{ℕ}
 use borrow.Author.Tests.{ne-eqb}
-use lib.Dec.{eqb}
 use lib.ListN.{replicate}
 use Rattle.laws.proofs.Cases.{either, bool}
 use Rattle.model.specs.declared.Size.{Size}
-use Rattle.model.specs.declared.Rack.{Rack}
 use Rattle.model.specs.declared.Entry.{Entry}
 use Rattle.model.specs.declared.Entry.the-variants as entry
 use Rattle.model.specs.declared.Code.{Code}
 use Rattle.model.specs.declared.Code.the-variants as code
 use Rattle.model.specs.Record.{noCue}
 use Rattle.model.specs.Table.{Tables, Card}
-use Rattle.model.specs.Turn.{Outcome, fits, refusal, turned}
+use Rattle.model.specs.Turn.{fits, refusal, turned}
 use Rattle.model.specs.Fresh.{zeroRack, filled}
 use Rattle.model.specs.Logs.{entryNumber, entryCue}
-use Rattle.model.specs.Cues.{Listed, listsFit, badCue, addCue, codeNumber, codeValue}
+use Rattle.model.specs.Cues.{listsFit, badCue, addCue, codeNumber, codeValue}
 
 -- a refused turn leaves the tables and the racks
 pub turn-stays : (s : Size) (c : Card) (turn : List ℕ) → (turned s c turn .number ≡ 0 → ⊥) → turned s c turn .card ≡ c

@@ -16,7 +16,7 @@ use Rattle.protocol.specs.Log.{Log}
 use Rattle.protocol.specs.Settle.{settledLog, nextHeld}
 use Rattle.protocol.specs.History.{visiting, Rack, hasAnswer, History, settled, endBlock}
 use Rattle.protocol.proofs.Put.{put-same, put-other}
-use Rattle.protocol.proofs.Order.{block-below}
+use Rattle.model.proofs.Order.{block-below}
 use Rattle.protocol.proofs.Invariant.{past-cases, past-before, past-now, past-reached, Goes, Commit, RackInvariant, Invariant}
 use Rattle.protocol.proofs.RackStep.{still-offered, rack-step, enter-step}
 

@@ -15,7 +15,6 @@ pub mod Settle
 pub mod Round
 pub mod Lane
 pub mod Growth
-pub mod Order
 pub mod Invariant
 pub mod RackStep
 pub mod Move

@@ -18,7 +18,7 @@ use Rattle.protocol.specs.Clock.{blockLength, roundLength, stepIn, stepB
 use Rattle.protocol.proofs.Put.{put-same, putAt-all, putAt-same, putAt-lane, putAt-round}
 use Rattle.protocol.proofs.Object.{Consistent, step-consistent}
 use Rattle.protocol.proofs.Steps.{own-move, other-move, done-taken, taken-done}
-use Rattle.protocol.proofs.Order.{block-of-lane}
+use Rattle.model.proofs.Order.{block-of-lane}
 use Rattle.protocol.proofs.Invariant.{InPhase, Invariant}
 
 module _ (E : Edition) (n k : ℕ) where

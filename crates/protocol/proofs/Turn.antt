@@ -15,7 +15,7 @@ use Rattle.protocol.specs.Edition.{Edition, Lawful}
 use Rattle.protocol.specs.History.{Phase, offering, answering, visiting, hasAnswer, Turn, History, offerOf, proposal, freshHistory}
 use Rattle.protocol.specs.History.{move, isDone, visit, fitsAnswer, act, turn, after, history}
 use Rattle.protocol.proofs.AdoptCommit.{adopt-commit}
-use Rattle.protocol.proofs.Order.{lane-of-block}
+use Rattle.model.proofs.Order.{lane-of-block}
 use Rattle.protocol.proofs.Invariant.{past-now, Commit, InPhase, Invariant, fresh-invariant, commit-stays}
 use Rattle.protocol.proofs.RackStep.{enter-step}
 use Rattle.protocol.proofs.Move.{move-grows, move-invariant}

@@ -1,7 +1,7 @@
 -- Where a section of the cell table starts, and that each of its records lies in the table.
 use mathlib.Core.Path.{_≡_}
 use mathlib.Core.Bool.{true}
-use Prim.Native.Nat.{ℕ, _+_, _*_, _-_, _≤_, _<_}
+use Prim.Native.Nat.{ℕ, _+_, _*_, _≤_, _<_}
 use native.Mathlib.Omega.{arith}
 use Rattle.laws.proofs.Index.{cell-below, product-le}
 use Rattle.model.specs.declared.Size.{Size}

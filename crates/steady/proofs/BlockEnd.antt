@@ -18,7 +18,8 @@ use Rattle.model.specs.Kind.{placeAt, blockAt, laneAt, stepsIn, firstsRead, sec
 use Rattle.model.specs.Block.{result, news}
 use Rattle.model.specs.Step.{own, endingBlock}
 use Rattle.steady.proofs.Place.{stands, stands-over, stands-place, last-block}
-use Rattle.steady.proofs.Visits.{block-of-below, all-taken, here-after, else-after}
+use Rattle.model.proofs.Order.{block-below}
+use Rattle.steady.proofs.Visits.{all-taken, here-after, else-after}
 use Rattle.steady.proofs.Facts.{Done, Outcome, RackSound}
 use Rattle.steady.proofs.Cells.{full-value}
 use Rattle.steady.proofs.Values.{AllCarry, result-sound, result-full, news-sound}
@@ -159,6 +160,6 @@ module _ (s : Size) (t : Tables) (rack : ℕ) (r : Rack) (ready : Ready s t rack
     all-done e lane h =
         let at = stands s (r .step) late in
         let f = last-block s (r .step) _ _ at e (block-there s t rack r ok late) in
-        let b = block-of-below (s .lanes) (r .first) lane (ok .first .named late) h in
+        let b = block-below (r .first) (s .lanes) lane (ok .first .named late) h in
         ended-outcome lane h .done
         (all-taken s ended lane (blockAt s (r .step) + 1) 0 (stands-over s (r .step) _ _ at last) (omega arith))

@@ -15,7 +15,8 @@ use Rattle.model.specs.Step.{winning, After}
 use Rattle.model.specs.Sound.{soundCells, soundDecisions, soundLogs}
 use Rattle.model.proofs.Table.{Spot}
 use Rattle.steady.proofs.Place.{stands, block-below}
-use Rattle.steady.proofs.Visits.{lane-below, no-firsts, no-seconds}
+use Rattle.model.proofs.Order.{lane-below}
+use Rattle.steady.proofs.Visits.{no-firsts, no-seconds}
 use Rattle.model.proofs.Sizes.{Sizes, Exact}
 use Rattle.steady.proofs.Facts.{Clock, Chosen, ReadBack, Written, RackSound}
 
@@ -65,7 +66,7 @@ module _ (s : Size) where
     block-there h = block-below s (r .step) _ _ (stands s (r .step) h) (ok .clock .step-high)
 
     pub lane-there : 2 ≤ r .step → laneAt s r < s .lanes
-    lane-there h = lane-below (s .lanes) (r .first) (blockAt s (r .step)) (ok .first .named h) (block-there h)
+    lane-there h = lane-below (r .first) (s .lanes) (blockAt s (r .step)) (ok .first .named h) (block-there h)
 
     -- who has read something is past the answer
     first-begun : 1 ≤ firstsRead s r → 2 ≤ r .step

@@ -1,60 +1,16 @@
 -- In which order a rack visits its lanes, how many steps of each lane's block it has taken, and what it has read in its present block.
-use mathlib.Core.Path.{_≡_, refl, sym, ap, _∙_}
+use mathlib.Core.Path.{_≡_, sym, ap, _∙_}
 use mathlib.Core.Logic.{_≢_}
 use Prim.Native.Nat.{ℕ, _+_, _*_, _-_, _≤_, _<_}
 use native.Mathlib.Omega.{arith}
 use native.Mathlib.Nat.{zero-mod}
-use borrow.Author.Tests.{lt-ltb, le-ltb, eq-eqb, ne-eqb, le-leb, lt-leb}
-use Rattle.laws.proofs.Cases.{either, lt-or-ge, eq-or-ne}
+use Rattle.laws.proofs.Cases.{either, lt-or-ge}
+use Rattle.model.proofs.Order.{lane-of-block, block-of-lane}
 use Rattle.model.specs.declared.Size.{Size}
 use Rattle.model.specs.declared.Rack.{Rack}
 use Rattle.model.specs.Size.{blockSteps}
 use Rattle.model.specs.Kind.{blockAt, placeAt, laneOf, laneAt, blockOf, stepsIn, firstsRead, secondsRead}
 use Rattle.steady.proofs.Place.{rows, Stands, stands}
-
--- the lane of a lane's block is that lane
-pub lane-again : (first lane : ℕ) → laneOf first (blockOf first lane) ≡ lane
-unfolding laneOf blockOf
-lane-again first lane =
-    either (eq-or-ne lane first)
-    (λ (e : lane ≡ first). rw (eq-eqb lane first e) (sym e))
-    (λ (d : lane ≢ first). rw (ne-eqb lane first d)
-    (either (lt-or-ge lane first)
-    (λ (l : lane < first). rw (lt-ltb lane first l, ne-eqb (lane + 1) 0 (λ e. omega arith), le-leb (lane + 1) first (omega arith)) (omega arith))
-    (λ (g : first ≤ lane). rw (le-ltb lane first g, ne-eqb lane 0 (λ e. omega (arith, d)), lt-leb lane first (omega (arith, d))))))
-
--- and the block of a block's lane is that block
-pub block-again : (first block : ℕ) → blockOf first (laneOf first block) ≡ block
-unfolding laneOf blockOf
-block-again first block =
-    either (eq-or-ne block 0)
-    (λ (e : block ≡ 0). rw (eq-eqb block 0 e, eq-eqb first first refl) (sym e))
-    (λ (d : block ≢ 0). rw (ne-eqb block 0 d)
-    (either (lt-or-ge first block)
-    (λ (l : first < block). rw (lt-leb block first l, ne-eqb block first (λ e. omega arith), le-ltb block first (omega arith)))
-    (λ (g : block ≤ first).
-    let l : block - 1 < first = omega (arith, d) in
-    rw (le-leb block first g, ne-eqb (block - 1) first (λ e. omega arith), lt-ltb (block - 1) first l) (omega (arith, d)))))
-
-pub lane-below : (k first block : ℕ) → first < k → block < k → laneOf first block < k
-unfolding laneOf
-lane-below k first block h g =
-    either (eq-or-ne block 0)
-    (λ (e : block ≡ 0). rw (eq-eqb block 0 e) h)
-    (λ (d : block ≢ 0). rw (ne-eqb block 0 d)
-    (either (lt-or-ge first block)
-    (λ (l : first < block). rw (lt-leb block first l) g)
-    (λ (i : block ≤ first). rw (le-leb block first i) (omega arith))))
-
-pub block-of-below : (k first lane : ℕ) → first < k → lane < k → blockOf first lane < k
-unfolding blockOf
-block-of-below k first lane h g =
-    either (eq-or-ne lane first)
-    (λ (e : lane ≡ first). rw (eq-eqb lane first e) (omega arith))
-    (λ (d : lane ≢ first). rw (ne-eqb lane first d)
-    (either (lt-or-ge lane first)
-    (λ (l : lane < first). rw (lt-ltb lane first l) (omega arith))
-    (λ (i : first ≤ lane). rw (le-ltb lane first i) g)))
 
 module _ (s : Size) where
   -- nothing is taken or read before the first block
@@ -98,10 +54,10 @@ module _ (s : Size) where
   -- the lane at work is that of the block at work
   module _ (r : Rack) (lane : ℕ) where
     here-block : lane ≡ laneAt s r → blockOf (r .first) lane ≡ blockAt s (r .step)
-    here-block e = ap (blockOf (r .first)) e ∙ block-again (r .first) (blockAt s (r .step))
+    here-block e = ap (blockOf (r .first)) e ∙ block-of-lane (r .first) (blockAt s (r .step))
 
     else-block : lane ≢ laneAt s r → blockOf (r .first) lane ≢ blockAt s (r .step)
-    else-block d e = d (sym (lane-again (r .first) lane) ∙ ap (laneOf (r .first)) e)
+    else-block d e = d (sym (lane-of-block (r .first) lane) ∙ ap (laneOf (r .first)) e)
 
     pub here-before : 2 ≤ r .step → lane ≡ laneAt s r → stepsIn s r lane ≡ placeAt s (r .step)
     here-before late e = some-taken r lane _ _ (stands s (r .step) late) (here-block e)

@@ -1,5 +1,5 @@
 -- Past tests 1 and 2 the inner turn has the same promise.
-use mathlib.Core.Path.{_≡_, sym, _∙_}
+use mathlib.Core.Path.{sym, _∙_}
 use borrow.Author.Needs.{needs}
 use Rattle.card.proofs.Tests.{playable, refused}
 use Rattle.card.proofs.turn.Statement.{statement}

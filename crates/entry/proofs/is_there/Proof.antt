@@ -1,9 +1,6 @@
 -- The tests on the way are the definition's own.
-use mathlib.Core.Path.{_≡_}
-use mathlib.Core.Bool.{true}
 use Prim.Native.Nat.{_<_}
 use native.Mathlib.Omega.{arith}
-use borrow.Author.Needs.{needs}
 use borrow.Author.Tests.{leb-false}
 use Rattle.model.specs.Logs.{isThere}
 use Rattle.logs.proofs.Start.{log-fits}

@@ -6,14 +6,13 @@ use native.Mathlib.Omega.{arith}
 use borrow.Author.Needs.{needs}
 use borrow.Author.Tests.{not-true, not-false}
 use lib.ListN.{length}
-use Rattle.model.specs.Size.{sizeFits, logsLength}
 use Rattle.model.specs.Table.{logStart}
 use Rattle.model.specs.Logs.{isThere, logEntry}
 use Rattle.model.specs.Sound.{soundLogs}
 use Rattle.logs.proofs.Start.{log-fits}
 use Rattle.logs.proofs.Length.{length-most}
 use Rattle.sizes.specs.Lengths.{logsFit}
-use Rattle.entry.proofs.There.{There, there, fitting}
+use Rattle.entry.proofs.There.{there, fitting}
 use Rattle.entry.proofs.log_entry.Statement.{statement}
 use Rattle.entry.proofs.log_entry.Tie as tie
 

@@ -1,10 +1,10 @@
 -- After i turns the first i bytes are stored and the others are as they were.
 use Prim.Native.Nat.{_≤_, _-_}
-use mathlib.Core.Path.{_≡_, sym, ap, _∙_}
+use mathlib.Core.Path.{_≡_, _∙_}
 use mathlib.Core.List.{_++_, append-nil}
 use native.Mathlib.Omega.{arith}
 use borrow.Author.Needs.{needs}
-use borrow.Author.Fill.{fill-none, fill-more}
+use borrow.Author.Fill.{fill-more}
 use lib.ListN.{length, replicate, drop, length-set}
 use lib.Seq.{drop-length}
 use Rattle.fresh.proofs.fill.Statement.{statement}

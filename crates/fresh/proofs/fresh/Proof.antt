@@ -1,6 +1,6 @@
 -- A refused call leaves the tables and hands back zeros; a taken one fills each table, whose length is the exact one.
 use mathlib.Core.Path.{_≡_, sym, _∙_}
-use mathlib.Core.Bool.{true, false}
+use mathlib.Core.Bool.{true}
 use borrow.Author.Needs.{needs}
 use borrow.Author.Tests.{not-true, not-false}
 use Rattle.model.specs.Table.{Tables}

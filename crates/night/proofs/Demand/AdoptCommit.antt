@@ -24,7 +24,7 @@ use Rattle.night.specs.Demands.{Ends, stepsTaken, firstCell, AdoptCommit
 use Rattle.night.specs.View.{firstOf}
 use Rattle.night.proofs.Demand.Tied.{Tie}
 use Rattle.night.proofs.Demand.Reached.{movesOf, historyOf, reached-tied}
-use Rattle.night.proofs.Demand.Outcomes.{marked-committed, marked-value}
+use Rattle.night.proofs.Demand.Marks.{marked-committed, marked-value}
 use Rattle.night.proofs.Demand.Ended.{Ended, ends-done}
 use Rattle.night.proofs.Demand.Found.{found}
 

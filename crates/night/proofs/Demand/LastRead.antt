@@ -6,7 +6,7 @@ use mathlib.Core.List.{List, [], _∷_, _++_, map}
 use Prim.Native.Nat.{ℕ, suc, _+_, _≤_, _<_}
 use native.Mathlib.Omega.{arith}
 use borrow.Author.Tests.{eq-eqb}
-use lib.ListN.{length, take, length-set}
+use lib.ListN.{length, length-set}
 use lib.Seq.{getD-set-same, getD-set-other}
 use Rattle.laws.proofs.Cases.{either}
 use Rattle.model.specs.declared.Size.{Size}
@@ -31,8 +31,11 @@ use Rattle.protocol.proofs.Object.{Consistent}
 use Rattle.protocol.proofs.Ranges.{Kind, first-write, first-read, second-write, second-read, over, kinds, firsts-read}
 use Rattle.night.specs.View.{firstOf, secondOf, markedCell}
 use Rattle.night.proofs.Demand.Tied.{Tied}
-use Rattle.night.proofs.Demand.Shown.{shown-list, shown-more}
-use Rattle.night.proofs.Demand.Outcomes.{marked-value, result-shown, news-shown}
+use Rattle.night.proofs.View.Walk.{Shows}
+use Rattle.night.proofs.View.Rules.{result-seen}
+use Rattle.night.proofs.View.News.{news-seen}
+use Rattle.night.proofs.View.Gathered.{one-more-shown}
+use Rattle.night.proofs.Demand.Marks.{marked-value}
 use Rattle.night.proofs.Demand.Work.{shown, small, rack-sound, rack-shape, at-work}
 
 -- the marks of second cells are what they hold
@@ -116,26 +119,35 @@ module _ (s : Size) (c : Card) (h : History Marked) (tied : Tied s c h) (q : ℕ
       ap (λ (x : ℕ). readCell s (c .tables .cells) secondCells x lane i) (shown s c h tied q l .round)
       ∙ tied .view .seconds-shown R lane i current lane-there (omega (arith, the-last))
 
-  seconds-are : take (s .racks) (g .seconds) ≡ map secondOf seconds
+  all-read : length seconds ≡ s .racks
+  all-read = omega (arith, length-snoc ((o .seconds q) .gathered) ((o .seconds i) .cell), read-before, the-last)
+
+  seconds-shown : Shows secondOf (g .seconds) seconds
   unfolding secondGathered
-  seconds-are =
+  seconds-shown =
       let n = small s c h tied q l .racks-high in
       let long = rack-shape s c h tied q l .seconds in
-      ap (λ (x : ℕ). take x (g .seconds)) (sym the-last)
-      ∙ shown-more (r .seconds) ((o .seconds q) .gathered) ((o .seconds i) .cell) (cellNow s (c .tables .cells) r secondCells lane i) i
-      read-before (omega (arith, the-last))
-      (λ j b. shown s c h tied q l .seconds j (omega (arith, the-last)))
-      cell-read
+      record {
+        room = omega (arith, all-read, length-set (r .seconds) i (cellNow s (c .tables .cells) r secondCells lane i));
+        each = λ j b.
+            one-more-shown ((o .seconds q) .gathered) ((o .seconds i) .cell) secondOf (r .seconds) i
+            (cellNow s (c .tables .cells) r secondCells lane i) (sym read-before) (omega (arith, the-last)) cell-read
+            (λ x y. shown s c h tied q l .seconds x y) j (omega (arith, all-read));
+      }
 
-  firsts-are : take (s .racks) (g .firsts) ≡ map firstOf ((o .firsts q) .gathered)
-  unfolding secondGathered blockSteps
-  firsts-are =
+  firsts-long : length ((o .firsts q) .gathered) ≡ s .racks
+  unfolding blockSteps
+  firsts-long = omega (arith, firsts-read secondCell (s .racks) o consistent q, all-but-one)
+
+  firsts-shown : Shows firstOf (g .firsts) ((o .firsts q) .gathered)
+  unfolding secondGathered
+  firsts-shown =
       let n = small s c h tied q l .racks-high in
       let long = rack-shape s c h tied q l .firsts in
-      shown-list firstOf none (r .firsts) ((o .firsts q) .gathered) (s .racks)
-      (omega (arith, firsts-read secondCell (s .racks) o consistent q, all-but-one))
-      (omega arith)
-      (λ j b. shown s c h tied q l .firsts j (omega arith))
+      record {
+        room = omega (arith, firsts-long);
+        each = λ j b. shown s c h tied q l .firsts j (omega (arith, firsts-long));
+      }
 
   own-is : own s (c .tables .cells) q r ≡ firstValue first-edition ((o .firsts q) .cell)
   own-is =
@@ -209,26 +221,18 @@ module _ (s : Size) (c : Card) (h : History Marked) (tied : Tied s c h) (q : ℕ
 
   pub last-result : resultAt (afterSecondRead s (c .tables .cells) q (rackAt (c .racks) q)) (laneAt s (rackAt (c .racks) q))
       ≡ markedCell (result first-edition (step secondCell (s .racks) (h .objects ((h .racks q) .finished) (laneAt s (rackAt (c .racks) q))) ownMove) q)
-  unfolding secondGathered
   last-result =
-      let n = small s c h tied q l .racks-high in
-      let long = rack-shape s c h tied q l .seconds in
       result-there
-      ∙ result-shown (g .seconds) (s .racks) seconds (own s (c .tables .cells) q r) (cellNow s (c .tables .cells) r secondCells lane q .value)
-      (omega (arith, length-set (r .seconds) i (cellNow s (c .tables .cells) r secondCells lane i))) seconds-are
+      ∙ result-seen (g .seconds) seconds seconds-shown (own s (c .tables .cells) q r)
+      (cellNow s (c .tables .cells) r secondCells lane q .value) (s .racks) all-read
       ∙ (λ t. markedCell (outcome (own-is t) (second-is t) seconds))
       ∙ ap markedCell (sym result-is)
 
   pub last-news : newsAt (afterSecondRead s (c .tables .cells) q (rackAt (c .racks) q)) (laneAt s (rackAt (c .racks) q))
       ≡ newsOf first-edition (step secondCell (s .racks) (h .objects ((h .racks q) .finished) (laneAt s (rackAt (c .racks) q))) ownMove) q
-  unfolding secondGathered
   last-news =
-      let n = small s c h tied q l .racks-high in
-      let long = rack-shape s c h tied q l .seconds in
-      let long′ = rack-shape s c h tied q l .firsts in
       news-there
-      ∙ news-shown (g .firsts) (g .seconds) (s .racks) ((o .firsts q) .gathered) seconds
-      (omega arith) (omega (arith, length-set (r .seconds) i (cellNow s (c .tables .cells) r secondCells lane i))) firsts-are seconds-are
+      ∙ news-seen (g .firsts) (g .seconds) ((o .firsts q) .gathered) seconds firsts-shown seconds-shown (s .racks) firsts-long all-read
       ∙ sym news-is
 
   -- the other lanes' results and news stay

@@ -28,7 +28,7 @@ use Rattle.protocol.specs.Settle.{appendMissed, appendCommitted, settledLog}
 use Rattle.protocol.specs.History.{Rack, History, Turn, settled, move, turn}
 use Rattle.protocol.proofs.Put.{put-same, putAt-same, putAt-lane}
 use Rattle.protocol.proofs.Steps.{done-taken}
-use Rattle.protocol.proofs.Order.{lane-of-block, block-below}
+use Rattle.model.proofs.Order.{lane-of-block, block-below}
 use Rattle.protocol.proofs.FirstEdition.{first-lawful}
 use Rattle.protocol.proofs.Invariant.{InPhase}
 use Rattle.protocol.proofs.Turn.{turn-invariant}
@@ -38,7 +38,7 @@ use Rattle.steady.proofs.Kept.{block-there}
 use Rattle.steady.proofs.Leading.{round-long}
 use Rattle.night.specs.View.{markedCell}
 use Rattle.night.proofs.Demand.Tied.{Tied}
-use Rattle.night.proofs.Demand.Outcomes.{marked-committed, marked-value}
+use Rattle.night.proofs.Demand.Marks.{marked-committed, marked-value}
 use Rattle.night.proofs.Demand.Work.{block-length, AtWork, shown, small, rack-sound, at-work}
 use Rattle.night.proofs.Demand.LastRead.{ownMove, current, is-done, last-result, last-news, other-result, other-news}
 use Rattle.night.proofs.Demand.Lasting.{turn-settles}

@@ -20,7 +20,7 @@ use Rattle.protocol.specs.FirstEdition.{first-edition}
 use Rattle.protocol.specs.History as protocol
 use Rattle.protocol.specs.History.{visiting, Rack, History, Turn, enter, endBlock}
 use Rattle.protocol.specs.Clock.{stepIn}
-use Rattle.protocol.proofs.Order.{block-of-lane}
+use Rattle.model.proofs.Order.{block-of-lane}
 use Rattle.protocol.proofs.Invariant.{Invariant}
 use Rattle.night.specs.View.{RackView}
 use Rattle.night.proofs.View.Standing.{Visiting, place-is}

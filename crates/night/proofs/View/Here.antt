@@ -16,7 +16,7 @@ use Rattle.model.specs.declared.Rack as card
 use Rattle.model.specs.Table.{Tables, offers, firstCells, secondCells, readCell, cellNow, decisionAt, heldAt, firstAt, secondAt}
 use Rattle.model.specs.Kind.{laneAt}
 use Rattle.model.specs.Step.{own, proposal}
-use Rattle.steady.proofs.Visits.{lane-below}
+use Rattle.model.proofs.Order.{lane-below}
 use Rattle.steady.proofs.Kept.{Ready}
 use Rattle.protocol.specs.AdoptCommit.{Marked}
 use Rattle.protocol.specs.FirstEdition.{first-edition}
@@ -48,7 +48,7 @@ module _ (s : Size) (t : Tables) (h : History Marked) (q : ℕ) (r : card.Rack) 
   first-there = inv .rack-invariant q (ready .there) .answered r₀ has-answer .0
 
   pub lane-there : c₀ < s .lanes
-  lane-there = lane-below (s .lanes) first (w .block) first-there (w .below)
+  lane-there = lane-below first (s .lanes) (w .block) first-there (w .below)
 
   -- what was gathered
   pub firsts-here : (i : ℕ) → i < 8 → firstAt r i ≡ firstOf (getD ((object s h q r w .firsts q) .gathered) i none)

@@ -34,7 +34,7 @@ use Rattle.protocol.specs.History as protocol
 use Rattle.protocol.specs.History.{visiting, Rack, History, Turn, hasOffered, endBlock, settled}
 use Rattle.protocol.specs.Clock.{stepIn}
 use Rattle.protocol.proofs.Put.{put-same, put-other, putAt-round}
-use Rattle.protocol.proofs.Order.{lane-of-block, block-below}
+use Rattle.model.proofs.Order.{lane-of-block, block-below}
 use Rattle.protocol.proofs.Steps.{done-taken}
 use Rattle.protocol.proofs.Invariant.{past-before, InPhase, Invariant}
 use Rattle.protocol.proofs.Placed.{Clocked}

@@ -1,17 +1,14 @@
 -- The tests on the way are those of `turned`, in its order; the laws of `Turned` say what it is in each case.
 use mathlib.Core.Path.{_≡_, sym, _∙_}
-use mathlib.Core.Bool.{true, false}
-use Prim.Native.Nat.{ℕ, _<_}
+use mathlib.Core.Bool.{false}
+use Prim.Native.Nat.{_<_}
 use native.Mathlib.Omega.{arith}
 use borrow.Author.Needs.{needs}
-use lib.ListN.{length, getD}
-use Rattle.model.specs.declared.Rack.{Rack}
 use Rattle.model.specs.Table.{Card, rackAt}
 use Rattle.model.specs.Turn.{badRecord, rackOf}
 use Rattle.model.proofs.Sizes.{sizes, fits-size}
 use Rattle.step.specs.Ready.{Tested}
 use Rattle.step.proofs.Ready.{ready, unrefused}
-use Rattle.play.specs.Playable.{Playable}
 use Rattle.play.proofs.Turned.{Good, good, rack-tested, turned-bad, turned-refused, turned-taken}
 use Rattle.play.proofs.play.Statement.{statement}
 use Rattle.play.proofs.play.Tie as tie

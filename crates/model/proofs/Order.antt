@@ -43,3 +43,14 @@ module _ (first : ℕ) where
       (either (lt-or-ge lane first)
       (λ (b : lane < first). rw (lt-ltb lane first b) (omega arith))
       (λ (g : first ≤ lane). rw (le-ltb lane first g) l)))
+
+  -- and no block's lane is past the last lane
+  pub lane-below : (k block : ℕ) → first < k → block < k → laneOf first block < k
+  unfolding laneOf
+  lane-below k block h g =
+      either (eq-or-ne block 0)
+      (λ (e : block ≡ 0). rw (eq-eqb block 0 e) h)
+      (λ (d : block ≢ 0). rw (ne-eqb block 0 d)
+      (either (lt-or-ge first block)
+      (λ (l : first < block). rw (lt-leb block first l) g)
+      (λ (i : block ≤ first). rw (le-leb block first i) (omega arith))))
