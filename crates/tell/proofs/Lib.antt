@@ -1,0 +1,4 @@
+pub mod Pieces
+pub mod Logs
+pub mod Turns
+pub mod Cues

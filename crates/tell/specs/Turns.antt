@@ -1,0 +1,63 @@
+-- A piece of turns played and told: the card afterwards, the refused lines, and how many turns were taken.
+use mathlib.Core.Path.{_≡_}
+use mathlib.Core.List.{List, []}
+use mathlib.Core.Bool.{true, cond}
+use Prim.Native.Nat.{ℕ, _+_, _*_, _-_, _≤_, _<_, _^_}
+use lib.Dec.{eqb, ltb}
+use lib.ListN.{length}
+use Rattle.model.specs.declared.Size.{Size}
+use Rattle.model.specs.Table.{Card}
+use Rattle.model.specs.Shape.{Shape}
+use Rattle.model.specs.Sound.{sound}
+use Rattle.model.specs.Turn.{fits, turned}
+use Rattle.model.specs.Night.{after, replies, pieces}
+use Rattle.model.specs.Sheet.{refusedLine, refusedLines, takenIn}
+use Rattle.text.specs.Written.{Written, write, LineRoom}
+use Rattle.play.specs.Playable.{Playable}
+
+pub record Telling : Type 0 where
+  pub card : Card
+  pub text : Written
+  pub taken : ℕ
+
+-- turns played and told: each refused line behind the other from a place on, the count of turns taken added to what it was
+unfoldable pub tellTurns : Size → Card → List ℕ → ℕ → ℕ → ℕ → List (List ℕ) → Telling
+tellTurns s card out place index taken turns =
+    let numbers = replies s card turns in
+    record {
+      card = after s card turns;
+      text = write out place (refusedLines index numbers);
+      taken = taken + takenIn numbers;
+    }
+
+-- the line of one reply, none if it is 0
+unfoldable pub replyText : ℕ → ℕ → List ℕ
+replyText index number = cond (eqb number 0) [] (refusedLine index number)
+
+-- one turn played and told
+unfoldable pub tellTurn : Size → Card → List ℕ → ℕ → ℕ → ℕ → List ℕ → Telling
+tellTurn s card out place index taken turn =
+    let outcome = turned s card turn in
+    record {
+      card = outcome .card;
+      text = write out place (replyText index (outcome .number));
+      taken = taken + cond (eqb (outcome .number) 0) 1 0;
+    }
+
+-- where the record at a place ends, the last one perhaps short
+unfoldable pub pieceEnd : ℕ → ℕ → ℕ
+pieceEnd length at = cond (ltb (length - at) 4) length (at + 4)
+
+-- what one turn requires
+pub record TurnReady (s : Size) (card : Card) (out : List ℕ) (place taken : ℕ) : Type 0 where
+  pub playable : Playable s card
+  pub room : LineRoom out place
+  pub few : taken + 1 < 2 ^ 64
+
+-- what a piece of turns requires: a card that fits and is sound, of the shape that its type says, and room for a line of each record
+pub record TurnsReady (s : Size) (card : Card) (bytes out : List ℕ) (index : ℕ) : Type 0 where
+  pub shape : Shape card
+  pub fit : fits s (card .tables) ≡ true
+  pub ok : sound s card ≡ true
+  pub room : 128 * length (pieces bytes) ≤ length out
+  pub few : index + length (pieces bytes) < 2 ^ 64
