@@ -34,7 +34,7 @@ pub fn compare(nights: &Path, out: &mut impl Write) -> io::Result<bool> {
     Ok(passed > 0 && failed == 0)
 }
 
-fn folders_below(nights: &Path) -> io::Result<Vec<PathBuf>> {
+pub(crate) fn folders_below(nights: &Path) -> io::Result<Vec<PathBuf>> {
     let entries = fs::read_dir(nights)
         .and_then(|entries| entries.collect::<io::Result<Vec<_>>>())
         .map_err(|error| with_path(nights, error))?;
@@ -61,7 +61,7 @@ fn compare_sheet(folder: &Path) -> Result<(), String> {
 }
 
 /// The number of the first differing line, with what is expected there and what was got.
-fn first_difference(expected: &[u8], got: &[u8]) -> Option<(usize, String, String)> {
+pub(crate) fn first_difference(expected: &[u8], got: &[u8]) -> Option<(usize, String, String)> {
     let mut expected = expected.split_inclusive(|byte| *byte == b'\n');
     let mut got = got.split_inclusive(|byte| *byte == b'\n');
     for line in 1.. {

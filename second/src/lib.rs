@@ -9,6 +9,7 @@ pub mod check_turns;
 pub mod compare;
 pub mod cues;
 pub mod files;
+pub mod hold;
 pub mod logs;
 pub mod maker;
 pub mod night;

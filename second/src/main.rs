@@ -10,12 +10,14 @@ use std::process::ExitCode;
 use second::check_turns::check_turns;
 use second::compare::compare;
 use second::files::{open_named, read, EmptyFile, Named, PIECE};
+use second::hold::hold;
 use second::maker::{make_night, make_nights};
 use second::sheet::sheet_of_folder;
 use second::text::{pack, show_folder};
 
 const USAGE: &str = "usage: second sheet [FOLDER] | check-turns [FILE] | make SEED FOLDER [COUNT] \
-                     | pack TEXT FOLDER | show FOLDER | compare NIGHTS";
+                     | pack TEXT FOLDER | show FOLDER | compare NIGHTS \
+                     | hold PROGRAM NIGHTS SEED COUNT";
 
 fn main() -> ExitCode {
     let arguments: Vec<OsString> = env::args_os().skip(1).collect();
@@ -55,6 +57,16 @@ fn run(arguments: &[OsString], out: &mut impl Write) -> Option<io::Result<bool>>
         ("pack", [text, folder]) => pack_file(Path::new(text), Path::new(folder)),
         ("show", [folder]) => show_folder(Path::new(folder), out),
         ("compare", [nights]) => return Some(compare(Path::new(nights), out)),
+        ("hold", [program, nights, seed, count]) => {
+            let (seed, count) = (number(seed)?, number(count)?);
+            return Some(hold(
+                Path::new(program),
+                Path::new(nights),
+                seed,
+                count,
+                out,
+            ));
+        }
         _ => return None,
     };
     Some(done.map(|()| true))

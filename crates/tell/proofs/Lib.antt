@@ -2,3 +2,4 @@ pub mod Pieces
 pub mod Logs
 pub mod Turns
 pub mod Cues
+pub mod Steady

@@ -1,29 +1,32 @@
 -- The lines of a log one behind the other, and that they are the sheet's.
-use mathlib.Core.Path.{_≡_, refl, _∙_}
-use mathlib.Core.List.{List, _++_}
-use Prim.Native.Nat.{ℕ, zero, suc, _+_, _*_, _-_, _≤_}
+use mathlib.Core.Path.{_≡_, refl, sym, ap, _∙_}
+use mathlib.Core.List.{List, [], _++_}
+use mathlib.Core.Bool.{true}
+use Prim.Native.Nat.{ℕ, zero, suc, _+_, _*_, _-_, _≤_, _<_, _^_}
 use native.Mathlib.Omega.{arith}
 use native.Mathlib.Nat.{add-zero}
 use native.Mathlib.Numerals.{add-one}
-use borrow.Author.Tests.{ltb-true}
-use lib.Dec.{ltb}
-use lib.ListN.{length}
-use Rattle.laws.proofs.Cases.{and-true}
+use borrow.Author.Tests.{ltb-true, leb-true}
+use lib.Dec.{ltb, leb}
+use lib.ListN.{length, getD, length-append}
+use lib.Seq.{sets}
+use Rattle.laws.proofs.Cases.{either, bool, and-true}
 use Rattle.model.specs.declared.Size.{Size}
 use Rattle.model.specs.declared.Cue.{Cue}
 use Rattle.model.specs.Size.{within}
 use Rattle.model.specs.Record.{entryAt}
 use Rattle.model.specs.Table.{Card, lengthFrom, logStart, logLength, rackAt}
 use Rattle.model.specs.Sound.{soundCue}
-use Rattle.model.specs.Cues.{codeIn}
+use Rattle.model.specs.Cues.{listStart, listLength, codeIn}
 use Rattle.model.specs.Sheet.{logLine, entryLine, lineAt, entryLines, logLines}
 use Rattle.model.proofs.Sizes.{sizes}
 use Rattle.logs.proofs.Length.{length-most}
 use Rattle.logs.proofs.Start.{log-fits}
-use Rattle.cues.proofs.Lists.{list-within}
+use Rattle.cues.proofs.Lists.{list-within, code-bytes}
 use Rattle.steady.proofs.Logs.{logs-facts}
 use Rattle.text.specs.Written.{Written, write}
-use Rattle.text.proofs.Written.{behind, moved}
+use Rattle.text.proofs.Written.{behind, Moved, moved}
+use Rattle.text.proofs.Lines.{log-most, entry-most}
 use Rattle.tell.specs.Log.{entryText, entriesText, logText, EntriesReady, LogReady}
 
 -- an entry's line by its cue and code
@@ -79,6 +82,55 @@ module _ (s : Size) (logs lists : List ℕ) (rack lane start count : ℕ) (e : s
       ≡ logText s lists logs rack lane finished
   unfolding logText
   log-text finished = rw (f, e)
+
+-- a code of two bytes is small
+code-small : (k : ℕ) (lists : List ℕ) (rack lane number : ℕ) → ((i : ℕ) → getD lists i 0 < 256) → codeIn k lists rack lane number < 2 ^ 64
+unfolding codeIn
+code-small k lists rack lane zero bytes = omega arith
+code-small k lists rack lane (suc i) bytes =
+    let at = listStart k rack lane + i in
+    either (bool (ltb i (listLength k lists rack lane)))
+    (λ e. rw (e, code-bytes lists at) (omega (arith, bytes (2 * at), bytes (2 * at + 1))))
+    (λ e. rw e (omega arith))
+
+module _ (s : Size) (logs lists : List ℕ) (rack lane : ℕ) {out : List ℕ} (r : LogReady s logs lists rack lane out)
+    (bytes : (i : ℕ) → getD lists i 0 < 256) where
+  -- each entry is at most a line
+  entry-short : (i : ℕ) → i < logLength s logs rack lane → length (entryText (s .lanes) lists logs (logStart s rack lane) lane i) ≤ 128
+  unfolding entryText soundCue
+  entry-short i h =
+      let c = entryAt logs (logStart s rack lane + i) in
+      let z = sizes s (r .fit) in
+      let facts = logs-facts s logs (r .ok) rack lane (r .rack-there) (r .lane-there) in
+      let most = length-most logs (logStart s rack lane) (s .rounds) in
+      let t = and-true (ltb (c .issuer) (s .racks)) (within 1 (s .rounds + 1) (c .number)) (facts .used i h) in
+      let issuer = ltb-true (c .issuer) (s .racks) (t .0) in
+      let number = leb-true (c .number) (s .rounds + 1) (and-true (leb 1 (c .number)) (leb (c .number) (s .rounds + 1)) (t .1) .1) in
+      entry-most i (c .issuer) (c .number) _
+      (omega (arith, z .rounds-high)) (omega (arith, z .racks-high)) (omega (arith, z .rounds-high))
+      (code-small (s .lanes) lists (c .issuer) lane (c .number) bytes)
+
+  entries-short : (i : ℕ) → i ≤ logLength s logs rack lane
+      → length (entriesText (s .lanes) lists logs (logStart s rack lane) lane i) ≤ 128 * i
+  unfolding entriesText
+  entries-short zero h = omega arith
+  entries-short (suc i) h = rw length-append (omega (arith, entries-short i (omega arith), entry-short i h))
+
+  -- so a log's text is at most 65 lines
+  pub log-short : (finished : ℕ) → finished < 2 ^ 64 → length (logText s lists logs rack lane finished) ≤ 8320
+  unfolding logText
+  log-short finished h =
+      let L = logLength s logs rack lane in
+      let z = sizes s (r .fit) in
+      let most = length-most logs (logStart s rack lane) (s .rounds) in
+      rw length-append
+      (omega (
+        arith,
+        z .rounds-high,
+        entries-short L (omega arith),
+        log-most rack lane finished L (omega (arith, r .rack-there, z .racks-high)) (omega (arith, r .lane-there, z .lanes-high)) h
+            (omega (arith, z .rounds-high)),
+      ))
 
 -- the text of a log of a card is the sheet's
 module _ (s : Size) (lists : List ℕ) (card : Card) (rack lane : ℕ) where

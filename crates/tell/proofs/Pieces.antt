@@ -1,7 +1,7 @@
 -- A walk over bytes by records of four, the last one perhaps short, passes the records that `pieces` lists.
-use mathlib.Core.Path.{_≡_, refl, ap, _∙_}
+use mathlib.Core.Path.{_≡_, refl, sym, ap, _∙_}
 use mathlib.Core.List.{List, [], _∷_}
-use Prim.Native.Nat.{ℕ, suc, _+_, _-_, _≤_, _<_}
+use Prim.Native.Nat.{ℕ, zero, suc, _+_, _*_, _-_, _/_, _≤_, _<_}
 use native.Mathlib.Omega.{arith}
 use borrow.Author.Tests.{lt-ltb, le-ltb}
 use lib.ListN.{length, take, drop, length-drop, drop-of-length-le}
@@ -60,3 +60,12 @@ module _ (bytes : List ℕ) (at end : ℕ) (h : at < length bytes) (e : end ≡ 
   -- each record counts one
   pub fewer : length (pieces (drop at bytes)) ≡ suc (length (pieces (drop end bytes)))
   fewer = ap length pieces-next
+
+-- how many records bytes have
+pub pieces-count : (bytes : List ℕ) → length (pieces bytes) ≡ (length bytes + 3) / 4
+unfolding pieces
+pieces-count [] = refl
+pieces-count (a ∷ []) = refl
+pieces-count (a ∷ b ∷ []) = refl
+pieces-count (a ∷ b ∷ c ∷ []) = refl
+pieces-count (a ∷ b ∷ c ∷ d ∷ l) = omega (arith, pieces-count l)

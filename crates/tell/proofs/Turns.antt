@@ -1,13 +1,14 @@
 -- Turns told one after the other are turns told at once.
-use mathlib.Core.Path.{_≡_, refl, ap, _∙_}
+use mathlib.Core.Path.{_≡_, refl, sym, ap, _∙_}
 use mathlib.Core.List.{List, [], _∷_, _++_}
 use mathlib.Core.Bool.{Bool, true, false, cond, not}
-use Prim.Native.Nat.{ℕ, suc, _+_, _*_, _-_, _≤_, _<_, _^_}
+use Prim.Native.Nat.{ℕ, zero, suc, _+_, _*_, _-_, _≤_, _<_, _^_}
 use native.Mathlib.Omega.{arith}
 use native.Mathlib.Nat.{add-zero}
 use native.Mathlib.Numerals.{add-one}
 use lib.Dec.{eqb}
 use lib.ListN.{length, take, drop}
+use lib.Seq.{sets}
 use Rattle.model.specs.declared.Size.{Size}
 use Rattle.model.specs.Table.{Card, rackAt}
 use Rattle.model.specs.Sound.{sound}
@@ -16,10 +17,10 @@ use Rattle.model.specs.Night.{after, replies, pieces}
 use Rattle.model.specs.Sheet.{refusedLine, refusedLines, takenIn}
 use Rattle.steady.proofs.Turn.{Steady, turn-steady}
 use Rattle.text.specs.Written.{Written, write}
-use Rattle.text.proofs.Written.{behind, moved}
+use Rattle.text.proofs.Written.{behind, Moved, moved}
 use Rattle.text.proofs.Lines.{refused-most}
 use Rattle.tell.specs.Turns.{Telling, tellTurns, replyText, tellTurn, pieceEnd, TurnsReady}
-use Rattle.tell.proofs.Pieces.{pieces-none, pieces-next, fewer}
+use Rattle.tell.proofs.Pieces.{pieces-none, EndAt, end-at, pieces-next, fewer}
 
 -- a choice of two small numbers is small
 cond-small : (b : Bool) (x y : ℕ) → x ≤ 8 → y ≤ 8 → cond b x y ≤ 8
@@ -110,6 +111,34 @@ module _ (s : Size) where
         near = m .near;
         more = omega arith;
       }
+
+  -- what turns told leave: the card steady, at most a line of each turn, and at most each turn taken
+  pub record TurnsMoved (out : List ℕ) (place taken count : ℕ) (t : Telling) : Type 0 where
+    pub steady : Steady s (t .card)
+    pub same : length (t .text .bytes) ≡ length out
+    pub near : t .text .place ≤ place + 128 * count
+    pub more : t .taken ≤ taken + count
+
+  turns-end : (turns : List (List ℕ)) (card : Card) (out : List ℕ) (place index taken : ℕ) → Steady s card → index + length turns < 2 ^ 64
+      → TurnsMoved out place taken (length turns) (tellTurns s card out place index taken turns)
+  turns-end [] card out place index taken h few =
+      rw (← tell-none card out place index taken) (record { steady = h; same = refl; near = omega arith; more = omega arith })
+  turns-end (turn ∷ turns) card out place index taken h few =
+      let t = tellTurn s card out place index taken turn in
+      let m = turn-moved card out place index taken turn t refl h (omega arith) in
+      let rest = turns-end turns (t .card) (t .text .bytes) (t .text .place) (suc index) (t .taken) (m .steady) (omega arith) in
+      rw (← tell-next card out place index taken turn turns t refl)
+      (record {
+        steady = rest .steady;
+        same = rest .same ∙ m .same;
+        near = omega (arith, rest .near, m .near);
+        more = omega (arith, rest .more, m .more);
+      })
+
+  pub turns-moved : (turns : List (List ℕ)) (card : Card) (out : List ℕ) (place index taken : ℕ) {t : Telling}
+      → t ≡ tellTurns s card out place index taken turns → Steady s card → index + length turns < 2 ^ 64
+      → TurnsMoved out place taken (length turns) t
+  turns-moved turns card out place index taken e h few = rw e (turns-end turns card out place index taken h few)
 
   -- the records before a place told, and those from there on to tell
   pub record Going (card₀ : Card) (bytes out₀ : List ℕ) (index₀ : ℕ) (t : Telling) (number at : ℕ) : Type 0 where

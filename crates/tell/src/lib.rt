@@ -1,6 +1,6 @@
 // The sheet's work on lent buffers: what `sheet` reads is judged, played and told here, and its main only reads, calls and writes.
 ghost use mathlib.Core.Path.{_≡_};
-ghost use Prim.Native.Nat.{_+_, _*_, _≤_, _<_};
+ghost use Prim.Native.Nat.{_+_, _*_, _≤_, _<_, _^_};
 ghost use lib.ListN.{length};
 ghost use Rattle.model.specs.Sheet.{sizeOf, sizeGiven, loadCues};
 ghost use lib.Dec.{eqb};
@@ -56,6 +56,14 @@ fn piece_end(length: usize, at: usize) -> usize
         return length;
     }
     at + 4
+}
+
+// How many records a piece has, the last one perhaps short.
+pub fn records_in(bytes: &[u8]) -> u64
+    requires { ⌜ length (now bytes) < 2 ^ 63 ⌝ }
+    ensures { λ r. ⌜ r ≡ length (pieces (now (bytes .entry))) ⌝ }
+{
+    ((bytes.len() + 3) / 4) as u64
 }
 
 // What adding cue records hands back: 0 and how many there were, or the first refusal's number and its index.

@@ -1,10 +1,11 @@
 -- The invariant: the records before the place are told, and what is left to tell gives the whole. The card stays steady, so that each turn
 -- may be played without a test, and its tables keep their lengths.
-use mathlib.Core.Path.{sym, _∙_}
+use mathlib.Core.Path.{_≡_, sym, _∙_}
 use Prim.Native.Nat.{_≤_, _-_}
 use native.Mathlib.Omega.{arith}
 use borrow.Author.Needs.{needs}
 use lib.ListN.{length, drop}
+use Rattle.model.specs.Table.{Tables}
 use Rattle.model.specs.Night.{pieces}
 use Rattle.model.proofs.Sizes.{Exact, fits-exact}
 use Rattle.tell.proofs.Pieces.{EndAt, end-at, fewer}

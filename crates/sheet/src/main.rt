@@ -1,0 +1,381 @@
+// Prints the sheet of a night from the files size.rec, cues.rec and turns.rec. What is printed is made by the proved functions of `tell`,
+// `text`, `cues` and `fresh`; here it is only read, called and written.
+ghost use mathlib.Core.Path.{_≡_};
+ghost use mathlib.Core.Bool.{true};
+ghost use Prim.Native.Nat.{_+_, _*_, _≤_, _<_};
+ghost use lib.ListN.{length};
+ghost use Rattle.io.specs.Counts.{Counts};
+ghost use Rattle.model.specs.Size.{sizeFits};
+ghost use Rattle.model.specs.Cues.{listsFit};
+ghost use Rattle.sheet.specs.Night.{Played, PieceReady, PieceDone, RackReady, LogsReady};
+use model::Rack;
+use model::Size;
+
+// How many bytes of turns.rec are read at a time: 512 records.
+const PIECE: usize = 2048;
+
+// More pieces than any file has, so that the loop over them has an end.
+const PIECES: u64 = 1_000_000_000_000_000;
+
+// A file that was opened: its number, below 0 if it is missing, or a failure that has been told.
+struct File {
+    failed: bool,
+    fd: i32,
+}
+
+// What reading a file gave: its bytes' number, or a failure that has been told.
+struct Got {
+    failed: bool,
+    count: usize,
+}
+
+// The night so far: the racks, how many turns were read and taken, and whether there are more or a failure has been told.
+struct Night {
+    racks: [Rack; 8],
+    read: u64,
+    taken: u64,
+    more: bool,
+    failed: bool,
+}
+
+// After a read that came short: the file has ended, or else its reading failed, which is told.
+fn has_ended(fd: i32, path: &[u8]) -> bool {
+    let mut one = [0u8; 1];
+    let got = libc::read(fd, &mut one);
+    if got != 0 {
+        os::fail(path);
+        return false;
+    }
+    true
+}
+
+// Writes to standard output, or tells the failure.
+fn print(text: &[u8]) -> bool {
+    let is_written = io::write_all(1, text);
+    if !is_written {
+        os::fail(b"write");
+    }
+    is_written
+}
+
+// Opens a file to read. "A missing file counts as empty": it gives a number below 0 and no failure; any other failure is told.
+fn open(path: &[u8]) -> File {
+    let fd = os::open_read(path);
+    let mut failed = false;
+    if fd < 0 {
+        failed = os::errno() != libc::ENOENT;
+    }
+    if failed {
+        os::fail(path);
+    }
+    File { failed, fd }
+}
+
+// The first bytes of a file, at most as many as there is room for.
+fn load(path: &[u8], buf: &mut [u8]) -> Got
+    ensures { λ r. ⌜ r .count ≤ length (now (buf .exit)) ⌝ }
+{
+    let file = open(path);
+    let fd = file.fd;
+    if fd < 0 {
+        return Got {
+            failed: file.failed,
+            count: 0,
+        };
+    }
+    let count = io::read_full(fd, buf);
+    let mut fine = true;
+    if count < buf.len() {
+        fine = has_ended(fd, path);
+    }
+    libc::close(fd);
+    Got {
+        failed: !fine,
+        count,
+    }
+}
+
+// One piece of turns.rec read, played and told.
+fn play_some(
+    fd: i32,
+    size: Size,
+    cells: &mut [u8],
+    logs: &mut [u8],
+    decisions: &mut [u8],
+    night: Night,
+    out: &mut [u8],
+) -> Night
+    requires { ⌜ PieceReady size (record { tables = record { cells = now cells; logs = now logs; decisions = now decisions }; racks = night .racks }) (night .read) (night .taken) (now out) ⌝ }
+    ensures { λ r. ⌜ PieceDone size (record { tables = record { cells = now (cells .exit); logs = now (logs .exit); decisions = now (decisions .exit) }; racks = r .racks }) (night .read) (r .read) (r .taken) ⌝ }
+{
+    let mut buf = [0u8; 2048];
+    let n = io::read_full(fd, &mut buf);
+    let racks = night.racks;
+    let mut fine = true;
+    let whole = n == PIECE;
+    if !whole {
+        fine = has_ended(fd, b"turns.rec");
+    }
+    if !fine {
+        return Night {
+            racks,
+            read: night.read,
+            taken: night.taken,
+            more: false,
+            failed: true,
+        };
+    }
+    let count = tell::records_in(&buf[..n]);
+    let told = tell::tell_turns(
+        size,
+        cells,
+        logs,
+        decisions,
+        racks,
+        &buf[..n],
+        night.read,
+        out,
+    );
+    let place = told.place;
+    let after = told.racks;
+    let is_written = print(&out[..place]);
+    Night {
+        racks: after,
+        read: night.read + count,
+        taken: night.taken + told.taken,
+        more: whole & is_written,
+        failed: !is_written,
+    }
+}
+
+// All of turns.rec, piece by piece.
+fn play_all(
+    fd: i32,
+    size: Size,
+    cells: &mut [u8],
+    logs: &mut [u8],
+    decisions: &mut [u8],
+    racks: [Rack; 8],
+    out: &mut [u8],
+) -> Night
+    requires { ⌜ PieceReady size (record { tables = record { cells = now cells; logs = now logs; decisions = now decisions }; racks = racks }) 0 0 (now out) ⌝ }
+    ensures { λ r. ⌜ Played size (record { tables = record { cells = now (cells .exit); logs = now (logs .exit); decisions = now (decisions .exit) }; racks = r .racks }) (r .read) (r .taken) ⌝ }
+{
+    let mut night = Night {
+        racks,
+        read: 0,
+        taken: 0,
+        more: fd >= 0,
+        failed: false,
+    };
+    let mut left = PIECES;
+    while left > 0 {
+        if !night.more {
+            return night;
+        }
+        night = play_some(fd, size, cells, logs, decisions, night, out);
+        left -= 1;
+    }
+    night
+}
+
+// The logs of one rack.
+fn print_rack(
+    size: Size,
+    logs: &[u8],
+    lists: &[u8],
+    rack: usize,
+    finished: usize,
+    out: &mut [u8],
+) -> bool
+    requires { ⌜ RackReady size (now logs) (now lists) rack (now out) ⌝ }
+{
+    let lanes = size.lanes;
+    let mut lane: usize = 0;
+    while lane < lanes {
+        let place = tell::tell_log(size, logs, lists, rack, lane, finished, out);
+        let is_written = print(&out[..place]);
+        if !is_written {
+            return false;
+        }
+        lane += 1;
+    }
+    true
+}
+
+// "then for each rack and lane"
+fn print_racks(size: Size, logs: &[u8], lists: &[u8], racks: [Rack; 8], out: &mut [u8])
+    requires { ⌜ LogsReady size (now logs) (now lists) racks (now out) ⌝ }
+{
+    let count = size.racks;
+    let mut rack: usize = 0;
+    while rack < count {
+        let r = racks[rack];
+        let finished = (r.round as usize) - 1;
+        let is_written = print_rack(size, logs, lists, rack, finished, out);
+        if !is_written {
+            return;
+        }
+        rack += 1;
+    }
+}
+
+// Opens turns.rec and prints "the size line".
+fn start(size: Size) -> File {
+    let file = open(b"turns.rec");
+    if file.failed {
+        return file;
+    }
+    let mut out = [0u8; 128];
+    let place = text::size_line(&mut out, 0, size);
+    let fine = print(&out[..place]);
+    File {
+        failed: !fine,
+        fd: file.fd,
+    }
+}
+
+// "a line of turns read, taken and refused"
+fn print_turns(read: u64, taken: u64, out: &mut [u8]) -> bool
+    requires { ⌜ (taken ≤ read) × (65536 ≤ length (now out)) ⌝ }
+{
+    let place = text::turns_line(out, 0, read, taken, read - taken);
+    print(&out[..place])
+}
+
+// What is printed when all turns are played.
+fn print_played(size: Size, logs: &[u8], lists: &[u8], night: Night, out: &mut [u8])
+    requires { ⌜ (night .taken ≤ night .read) × LogsReady size (now logs) (now lists) (night .racks) (now out) ⌝ }
+{
+    let is_printed = print_turns(night.read, night.taken, out);
+    if !is_printed {
+        return;
+    }
+    let racks = night.racks;
+    print_racks(size, logs, lists, racks, out);
+}
+
+// The night played and told, behind the size line.
+fn print_night(
+    fd: i32,
+    size: Size,
+    cells: &mut [u8],
+    logs: &mut [u8],
+    decisions: &mut [u8],
+    lists: &[u8],
+    out: &mut [u8],
+)
+    requires { ⌜ (listsFit (size .racks) (size .lanes) (now lists) ≡ true) × (65536 ≤ length (now out)) ⌝ }
+{
+    let reply = fresh::fresh(size, cells, logs, decisions);
+    if reply.number != 0 {
+        return;
+    }
+    let racks = reply.racks;
+    let night = play_all(fd, size, cells, logs, decisions, racks, out);
+    if night.failed {
+        return;
+    }
+    print_played(size, logs, lists, night, out);
+}
+
+// The tables of a size, on the stack.
+fn print_sheet(fd: i32, size: Size, lists: &[u8])
+    requires { ⌜ (sizeFits size ≡ true) × (listsFit (size .racks) (size .lanes) (now lists) ≡ true) ⌝ }
+{
+    let mut cells = [0u8; 49152];
+    let mut logs = [0u8; 4096];
+    let mut decisions = [0u8; 256];
+    let mut out = [0u8; 65536];
+    let count = sizes::records(size);
+    let a = 24 * count;
+    let b = 2 * count;
+    let c = size.rounds * size.lanes;
+    print_night(
+        fd,
+        size,
+        &mut cells[..a],
+        &mut logs[..b],
+        &mut decisions[..c],
+        lists,
+        &mut out,
+    );
+}
+
+// "the first bad cue record prints `bad cues` and its index from 0, alone"
+fn print_bad_cues(index: u64) {
+    let mut out = [0u8; 128];
+    let place = text::bad_cues(&mut out, 0, index);
+    print(&out[..place]);
+}
+
+// "prints `bad size` alone"
+fn print_bad_size() {
+    let mut out = [0u8; 128];
+    let place = text::bad_size(&mut out, 0);
+    print(&out[..place]);
+}
+
+// What reading the cues gave: a failure that has been told, or 0 and their number, or a refusal's number and its index.
+struct Cues {
+    failed: bool,
+    number: u8,
+    index: u64,
+}
+
+// The cues read and listed. 32 lists of 64 are full after 2,048 records, so that the 2,049th is bad at the latest and no more need be read.
+fn load_cues(size: Size, lists: &mut [u8]) -> Cues {
+    let mut bytes = [0u8; 8200];
+    let got = load(b"cues.rec", &mut bytes);
+    let n = got.count;
+    let added = tell::tell_cues(size.racks, size.lanes, lists, &bytes[..n]);
+    Cues {
+        failed: got.failed,
+        number: added.number,
+        index: added.index,
+    }
+}
+
+// The cues listed in the lists lent, then the sheet.
+fn print_listed(size: Size, lists: &mut [u8])
+    requires { ⌜ (sizeFits size ≡ true) × (length (now lists) ≡ 128 * (size .racks * size .lanes)) ⌝ }
+{
+    let cues = load_cues(size, lists);
+    if cues.failed {
+        return;
+    }
+    if cues.number != 0 {
+        print_bad_cues(cues.index);
+        return;
+    }
+    let file = start(size);
+    if file.failed {
+        return;
+    }
+    print_sheet(file.fd, size, lists);
+}
+
+// The cue lists of a size, on the stack.
+fn print_all(size: Size)
+    requires { ⌜ sizeFits size ≡ true ⌝ }
+{
+    let mut all = [0u8; 4096];
+    let n = 128 * (size.racks * size.lanes);
+    print_listed(size, &mut all[..n]);
+}
+
+fn main() {
+    let mut given = [0u8; 5];
+    let got = load(b"size.rec", &mut given);
+    if got.failed {
+        return;
+    }
+    let n = got.count;
+    let is_given = tell::size_given(&given[..n]);
+    if !is_given {
+        print_bad_size();
+        return;
+    }
+    let size = tell::size_of(&given[..n]);
+    print_all(size);
+}
