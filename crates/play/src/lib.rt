@@ -1,7 +1,10 @@
 // The inner turn: a turn on tables that are known to be sound.
 ghost use mathlib.Core.Path.{_≡_};
-ghost use Rattle.model.specs.Turn.{badRecord, turned};
+ghost use mathlib.Core.Bool.{false};
+ghost use Rattle.model.specs.Turn.{badRecord, rackOf, turned};
+ghost use Rattle.step.specs.Ready.{Tested};
 ghost use Rattle.play.specs.Playable.{Playable};
+ghost use Rattle.play.specs.Rack.{rackNamed, rackTurned};
 use model::Rack;
 use model::Reply;
 use model::Size;
@@ -18,6 +21,53 @@ fn bad_record(size: Size, turn: &[u8]) -> bool
     spoiled | absent
 }
 
+// The rack that a record names, 0 where the record is bad.
+pub fn rack_named(size: Size, turn: &[u8]) -> usize
+    ensures { λ i. ⌜ i ≡ rackNamed size (now (turn .entry)) ⌝ }
+{
+    let bad = bad_record(size, turn);
+    if bad {
+        return 0;
+    }
+    turn[0] as usize
+}
+
+// What a turn gives its rack: 0 or the refusal's number, and the rack afterwards.
+pub struct Played {
+    pub number: u8,
+    pub rack: Rack,
+}
+
+// One turn of the rack that its record names: refused with 3 to 8 and nothing changed, or taken.
+pub fn play_rack(
+    size: Size,
+    cells: &mut [u8],
+    logs: &mut [u8],
+    decisions: &mut [u8],
+    r: Rack,
+    turn: &[u8],
+) -> Played
+    requires { ⌜ (badRecord size (now turn) ≡ false → Tested size (record { cells = now cells; logs = now logs; decisions = now decisions }) (rackOf (now turn)) r) ⌝ }
+    ensures { λ p. ⌜ record { number = p .number; after = record { tables = record { cells = now (cells .exit); logs = now (logs .exit); decisions = now (decisions .exit) }; rack = p .rack } } ≡ rackTurned size (record { cells = now (cells .entry); logs = now (logs .entry); decisions = now (decisions .entry) }) r (now (turn .entry)) ⌝ }
+{
+    let bad = bad_record(size, turn);
+    if bad {
+        return Played { number: 3, rack: r };
+    }
+    let rack = turn[0] as usize;
+    let lane = turn[1];
+    let source = turn[2];
+    let number = refusal::refusal_of(cells, logs, decisions, size, rack, r, lane, source);
+    if number != 0 {
+        return Played { number, rack: r };
+    }
+    let after = step::act(cells, logs, decisions, size, rack, r, lane, source);
+    Played {
+        number: 0,
+        rack: after,
+    }
+}
+
 // One turn: refused with 3 to 8 and nothing changed, or taken, with one of the eight racks replaced.
 pub fn play(
     size: Size,
@@ -30,22 +80,14 @@ pub fn play(
     requires { ⌜ Playable size (record { tables = record { cells = now cells; logs = now logs; decisions = now decisions }; racks = racks }) ⌝ }
     ensures { λ r. ⌜ record { number = r .number; card = record { tables = record { cells = now (cells .exit); logs = now (logs .exit); decisions = now (decisions .exit) }; racks = r .racks } } ≡ turned size (record { tables = record { cells = now (cells .entry); logs = now (logs .entry); decisions = now (decisions .entry) }; racks = racks }) (now (turn .entry)) ⌝ }
 {
-    let bad = bad_record(size, turn);
-    if bad {
-        return Reply { number: 3, racks };
-    }
-    let rack = turn[0] as usize;
-    let lane = turn[1];
-    let source = turn[2];
+    let rack = rack_named(size, turn);
     let r = racks[rack];
-    let number = refusal::refusal_of(cells, logs, decisions, size, rack, r, lane, source);
-    if number != 0 {
-        return Reply { number, racks };
-    }
+    let played = play_rack(size, cells, logs, decisions, r, turn);
+    let after = played.rack;
     let mut all = racks;
-    all[rack] = step::act(cells, logs, decisions, size, rack, r, lane, source);
+    all[rack] = after;
     Reply {
-        number: 0,
+        number: played.number,
         racks: all,
     }
 }

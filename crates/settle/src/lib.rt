@@ -3,8 +3,6 @@ ghost use mathlib.Core.Path.{_≡_};
 ghost use mathlib.Core.Bool.{true};
 ghost use Prim.Native.Nat.{_+_, _*_, _≤_, _<_};
 ghost use lib.ListN.{length};
-ghost use Rattle.model.specs.Size.{sizeFits};
-ghost use Rattle.model.specs.Table.{logStart};
 ghost use Rattle.model.specs.Settle.{stateOf, settledLog, settleLane, settleLanes, tooLong};
 ghost use Rattle.settle.specs.Append.{appendIf, grownIf, isMissed, isDue, logWith, logAt, laneFits};
 ghost use Rattle.settle.specs.Lent.{Room, Lent, LaneLent, LanesLent};

@@ -4,7 +4,6 @@ ghost use mathlib.Core.Path.{_≡_};
 ghost use mathlib.Core.Bool.{true};
 ghost use Prim.Native.Nat.{_+_, _*_, _≤_, _<_};
 ghost use lib.ListN.{length};
-ghost use Rattle.io.specs.Counts.{Counts};
 ghost use Rattle.model.specs.Size.{sizeFits};
 ghost use Rattle.model.specs.Cues.{listsFit};
 ghost use Rattle.sheet.specs.Night.{Played, PieceReady, PieceDone, RackReady, LogsReady};

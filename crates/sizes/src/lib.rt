@@ -1,7 +1,6 @@
 // Test 1: sizes in range and lent lengths exact.
 ghost use mathlib.Core.Path.{_≡_};
 ghost use mathlib.Core.Bool.{true};
-ghost use Prim.Native.Nat.{_≤_};
 ghost use Rattle.model.specs.Size.{sizeFits, records};
 ghost use Rattle.sizes.specs.Lengths.{lengthsFit, logsFit};
 use model::Size;

@@ -7,7 +7,7 @@ ghost use lib.ListN.{length};
 ghost use Rattle.laws.specs.Below.{below};
 ghost use Rattle.model.specs.Size.{sizeFits, cellsLength, logsLength, decisionsLength};
 ghost use Rattle.model.specs.Record.{noCue, sameCue, entryAt};
-ghost use Rattle.model.specs.Table.{undecided, logStart, logLength};
+ghost use Rattle.model.specs.Table.{undecided, logLength};
 ghost use Rattle.model.specs.Sound.{soundCue, soundRecord, soundSection, soundCells, soundDecisions, soundEntries, soundLog, soundLogs, soundTables};
 ghost use Rattle.sound.specs.Lent.{Lent};
 use crate::values::sound_cell;

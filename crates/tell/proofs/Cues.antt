@@ -1,20 +1,18 @@
 -- Cue records added one after the other, to the first bad one.
 use mathlib.Core.Path.{_≡_, refl, sym, ap, _∙_}
-use mathlib.Core.List.{List, [], _∷_}
-use mathlib.Core.Bool.{Bool, true, false, cond, not}
-use Prim.Native.Nat.{ℕ, zero, suc, _+_, _*_, _-_, _≤_, _<_}
+use mathlib.Core.List.{List, _∷_}
+use Prim.Native.Nat.{ℕ, _+_, _-_, _≤_, _<_}
 use native.Mathlib.Omega.{arith}
 use native.Mathlib.Numerals.{add-one}
 use borrow.Author.Tests.{eq-eqb, ne-eqb}
-use lib.Dec.{eqb}
 use lib.ListN.{length, take, drop}
-use lib.Seq.{sets, length-sets}
+use lib.Seq.{length-sets}
 use Rattle.laws.proofs.Cases.{either, bool}
 use Rattle.model.specs.Cues.{Listed, listsFit, badCue, listed, addCue}
 use Rattle.model.specs.Night.{pieces}
 use Rattle.model.specs.Sheet.{Loaded, loadCues}
 use Rattle.tell.specs.Turns.{pieceEnd}
-use Rattle.tell.proofs.Pieces.{pieces-none, EndAt, end-at, pieces-next}
+use Rattle.tell.proofs.Pieces.{pieces-none, end-at, pieces-next}
 
 -- a record added or refused leaves the length, and a refused one the lists
 pub record Kept (lists : List ℕ) (a : Listed) : Type 0 where

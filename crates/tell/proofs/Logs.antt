@@ -1,7 +1,6 @@
 -- The lines of a log one behind the other, and that they are the sheet's.
-use mathlib.Core.Path.{_≡_, refl, sym, ap, _∙_}
-use mathlib.Core.List.{List, [], _++_}
-use mathlib.Core.Bool.{true}
+use mathlib.Core.Path.{_≡_, refl, _∙_}
+use mathlib.Core.List.{List, _++_}
 use Prim.Native.Nat.{ℕ, zero, suc, _+_, _*_, _-_, _≤_, _<_, _^_}
 use native.Mathlib.Omega.{arith}
 use native.Mathlib.Nat.{add-zero}
@@ -9,7 +8,6 @@ use native.Mathlib.Numerals.{add-one}
 use borrow.Author.Tests.{ltb-true, leb-true}
 use lib.Dec.{ltb, leb}
 use lib.ListN.{length, getD, length-append}
-use lib.Seq.{sets}
 use Rattle.laws.proofs.Cases.{either, bool, and-true}
 use Rattle.model.specs.declared.Size.{Size}
 use Rattle.model.specs.declared.Cue.{Cue}
@@ -25,7 +23,7 @@ use Rattle.logs.proofs.Start.{log-fits}
 use Rattle.cues.proofs.Lists.{list-within, code-bytes}
 use Rattle.steady.proofs.Logs.{logs-facts}
 use Rattle.text.specs.Written.{Written, write}
-use Rattle.text.proofs.Written.{behind, Moved, moved}
+use Rattle.text.proofs.Written.{behind, moved}
 use Rattle.text.proofs.Lines.{log-most, entry-most}
 use Rattle.tell.specs.Log.{entryText, entriesText, logText, EntriesReady, LogReady}
 

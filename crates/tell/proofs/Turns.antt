@@ -1,14 +1,13 @@
 -- Turns told one after the other are turns told at once.
-use mathlib.Core.Path.{_≡_, refl, sym, ap, _∙_}
+use mathlib.Core.Path.{_≡_, refl, ap, _∙_}
 use mathlib.Core.List.{List, [], _∷_, _++_}
 use mathlib.Core.Bool.{Bool, true, false, cond, not}
-use Prim.Native.Nat.{ℕ, zero, suc, _+_, _*_, _-_, _≤_, _<_, _^_}
+use Prim.Native.Nat.{ℕ, suc, _+_, _*_, _-_, _≤_, _<_, _^_}
 use native.Mathlib.Omega.{arith}
 use native.Mathlib.Nat.{add-zero}
 use native.Mathlib.Numerals.{add-one}
 use lib.Dec.{eqb}
 use lib.ListN.{length, take, drop}
-use lib.Seq.{sets}
 use Rattle.model.specs.declared.Size.{Size}
 use Rattle.model.specs.Table.{Card, rackAt}
 use Rattle.model.specs.Sound.{sound}
@@ -17,10 +16,10 @@ use Rattle.model.specs.Night.{after, replies, pieces}
 use Rattle.model.specs.Sheet.{refusedLine, refusedLines, takenIn}
 use Rattle.steady.proofs.Turn.{Steady, turn-steady}
 use Rattle.text.specs.Written.{Written, write}
-use Rattle.text.proofs.Written.{behind, Moved, moved}
+use Rattle.text.proofs.Written.{behind, moved}
 use Rattle.text.proofs.Lines.{refused-most}
 use Rattle.tell.specs.Turns.{Telling, tellTurns, replyText, tellTurn, pieceEnd, TurnsReady}
-use Rattle.tell.proofs.Pieces.{pieces-none, EndAt, end-at, pieces-next, fewer}
+use Rattle.tell.proofs.Pieces.{pieces-none, pieces-next, fewer}
 
 -- a choice of two small numbers is small
 cond-small : (b : Bool) (x y : ℕ) → x ≤ 8 → y ≤ 8 → cond b x y ≤ 8

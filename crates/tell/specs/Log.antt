@@ -5,7 +5,6 @@ use mathlib.Core.Bool.{true}
 use Prim.Native.Nat.{ℕ, zero, suc, _+_, _*_, _≤_, _<_}
 use lib.ListN.{length}
 use Rattle.model.specs.declared.Size.{Size}
-use Rattle.model.specs.declared.Cue.{Cue}
 use Rattle.model.specs.Size.{sizeFits, logsLength}
 use Rattle.model.specs.Record.{entryAt}
 use Rattle.model.specs.Table.{logStart, logLength}

@@ -12,8 +12,7 @@ use Rattle.model.specs.Sound.{sound}
 use Rattle.model.specs.Turn.{fits, turned}
 use Rattle.model.specs.Night.{after, replies, pieces}
 use Rattle.model.specs.Sheet.{refusedLine, refusedLines, takenIn}
-use Rattle.text.specs.Written.{Written, write, LineRoom}
-use Rattle.play.specs.Playable.{Playable}
+use Rattle.text.specs.Written.{Written, write}
 
 pub record Telling : Type 0 where
   pub card : Card
@@ -47,12 +46,6 @@ tellTurn s card out place index taken turn =
 -- where the record at a place ends, the last one perhaps short
 unfoldable pub pieceEnd : ℕ → ℕ → ℕ
 pieceEnd length at = cond (ltb (length - at) 4) length (at + 4)
-
--- what one turn requires
-pub record TurnReady (s : Size) (card : Card) (out : List ℕ) (place taken : ℕ) : Type 0 where
-  pub playable : Playable s card
-  pub room : LineRoom out place
-  pub few : taken + 1 < 2 ^ 64
 
 -- what a piece of turns requires: a card that fits and is sound, of the shape that its type says, and room for a line of each record
 pub record TurnsReady (s : Size) (card : Card) (bytes out : List ℕ) (index : ℕ) : Type 0 where

@@ -1,13 +1,13 @@
 // The sheet's work on lent buffers: what `sheet` reads is judged, played and told here, and its main only reads, calls and writes.
 ghost use mathlib.Core.Path.{_≡_};
-ghost use Prim.Native.Nat.{_+_, _*_, _≤_, _<_, _^_};
+ghost use Prim.Native.Nat.{_+_, _≤_, _<_, _^_};
 ghost use lib.ListN.{length};
 ghost use Rattle.model.specs.Sheet.{sizeOf, sizeGiven, loadCues};
 ghost use lib.Dec.{eqb};
 ghost use mathlib.Core.Bool.{cond};
-ghost use Rattle.text.specs.Written.{Written, write, LineRoom};
+ghost use Rattle.text.specs.Written.{write, LineRoom};
 ghost use Rattle.model.specs.Night.{pieces};
-ghost use Rattle.tell.specs.Turns.{Telling, TurnReady, TurnsReady, replyText, tellTurn, tellTurns, pieceEnd};
+ghost use Rattle.tell.specs.Turns.{TurnsReady, replyText, tellTurns, pieceEnd};
 ghost use Rattle.tell.specs.Log.{EntriesReady, LogReady, entriesText, logText};
 use model::Rack;
 use model::Size;
@@ -166,32 +166,6 @@ fn one_taken(number: u8) -> u64
     0
 }
 
-// One turn played and told.
-fn tell_turn(
-    size: Size,
-    cells: &mut [u8],
-    logs: &mut [u8],
-    decisions: &mut [u8],
-    told: Told,
-    turn: &[u8],
-    index: u64,
-    out: &mut [u8],
-) -> Told
-    requires { ⌜ TurnReady size (record { tables = record { cells = now cells; logs = now logs; decisions = now decisions }; racks = told .racks }) (now out) (told .place) (told .taken) ⌝ }
-    ensures { λ r. ⌜ record { card = record { tables = record { cells = now (cells .exit); logs = now (logs .exit); decisions = now (decisions .exit) }; racks = r .racks }; text = record { bytes = now (out .exit); place = r .place }; taken = r .taken } ≡ tellTurn size (record { tables = record { cells = now (cells .entry); logs = now (logs .entry); decisions = now (decisions .entry) }; racks = told .racks }) (now (out .entry)) (told .place) index (told .taken) (now (turn .entry)) ⌝ }
-{
-    let before = told.racks;
-    let reply = play::play(size, cells, logs, decisions, before, turn);
-    let racks = reply.racks;
-    let place = tell_reply(out, told.place, index, reply.number);
-    let taken = told.taken + one_taken(reply.number);
-    Told {
-        racks,
-        place,
-        taken,
-    }
-}
-
 // "for each refused turn `refused`, its index from 0, its number": plays a piece of turns.rec, whose first record has the index given, and
 // writes the refused lines from the buffer's start on. Soundness is not tested between turns: a turn keeps it.
 pub fn tell_turns(
@@ -207,27 +181,27 @@ pub fn tell_turns(
     requires { ⌜ TurnsReady size (record { tables = record { cells = now cells; logs = now logs; decisions = now decisions }; racks = racks }) (now bytes) (now out) index ⌝ }
     ensures { λ r. ⌜ record { card = record { tables = record { cells = now (cells .exit); logs = now (logs .exit); decisions = now (decisions .exit) }; racks = r .racks }; text = record { bytes = now (out .exit); place = r .place }; taken = r .taken } ≡ tellTurns size (record { tables = record { cells = now (cells .entry); logs = now (logs .entry); decisions = now (decisions .entry) }; racks = racks }) (now (out .entry)) 0 index 0 (pieces (now (bytes .entry))) ⌝ }
 {
-    let mut told = Told {
-        racks,
-        place: 0,
-        taken: 0,
-    };
+    let mut all = racks;
+    let mut place: usize = 0;
+    let mut taken: u64 = 0;
     let mut number = index;
     let mut at: usize = 0;
     while at < bytes.len() {
         let end = piece_end(bytes.len(), at);
-        told = tell_turn(
-            size,
-            cells,
-            logs,
-            decisions,
-            told,
-            &bytes[at..end],
-            number,
-            out,
-        );
+        let rack = play::rack_named(size, &bytes[at..end]);
+        let r = all[rack];
+        let played = play::play_rack(size, cells, logs, decisions, r, &bytes[at..end]);
+        let after = played.rack;
+        all[rack] = after;
+        place = tell_reply(out, place, number, played.number);
+        let one = one_taken(played.number);
+        taken += one;
         number += 1;
         at = end;
     }
-    told
+    Told {
+        racks: all,
+        place,
+        taken,
+    }
 }

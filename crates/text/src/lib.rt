@@ -5,7 +5,7 @@ ghost use Prim.Native.Nat.{_+_, _≤_, _<_};
 ghost use lib.ListN.{length};
 ghost use Rattle.laws.specs.Text.{decimal};
 ghost use Rattle.model.specs.Sheet.{badSizeLine, badCuesLine, sizeLine, refusedLine, turnsLine, logLine, entryLine};
-ghost use Rattle.text.specs.Written.{Written, write, twoDigits, ended, named, LineRoom};
+ghost use Rattle.text.specs.Written.{write, twoDigits, ended, named, LineRoom};
 use model::Size;
 
 // Bytes as they are: the words of a line, with what stands behind them.

@@ -1,5 +1,4 @@
 -- The bytes lent are those that were read.
-use native.Mathlib.Omega.{arith}
 use borrow.Author.Needs.{needs}
 use Rattle.sheet.proofs.Pieces.{part-length}
 use Rattle.sheet.proofs.load_cues.Statement.{statement}

@@ -1,6 +1,5 @@
 -- The card stays steady, as turns keep it; the lines of a piece have room, as its records are at most 512.
-use mathlib.Core.Path.{_≡_, sym, _∙_}
-use Prim.Native.Nat.{ℕ, _≤_}
+use Prim.Native.Nat.{_≤_}
 use native.Mathlib.Omega.{arith}
 use borrow.Author.Needs.{needs}
 use Rattle.tell.proofs.Turns.{turns-moved}

@@ -1,10 +1,8 @@
 -- A card filled afresh is steady, and stays so while its turns are played.
-use mathlib.Core.Path.{_≡_}
 use native.Mathlib.Omega.{arith}
 use borrow.Author.Needs.{needs}
 use Rattle.model.proofs.Sizes.{fits-exact}
 use Rattle.tell.proofs.Steady.{filled-steady, steady-size, steady-logs, steady-round}
-use Rattle.sheet.specs.Night.{Played}
 use Rattle.sheet.proofs.print_night.Statement.{statement}
 use Rattle.sheet.proofs.print_night.Tie as tie
 

@@ -1,5 +1,4 @@
 -- The invariant: the records before the place are added, and what is left to add gives the whole.
-use mathlib.Core.Path.{_≡_}
 use Prim.Native.Nat.{_-_}
 use native.Mathlib.Omega.{arith}
 use borrow.Author.Needs.{needs}
