@@ -13,8 +13,8 @@ use model::Size;
 // How many bytes of turns.rec are read at a time: 512 records.
 const PIECE: usize = 2048;
 
-// More pieces than any file has, so that the loop over them has an end.
-const PIECES: u64 = 1_000_000_000_000_000;
+// 2^52 pieces are 2^63 bytes, more than a file can have: so the loop over them has an end.
+const PIECES: u64 = 4_503_599_627_370_496;
 
 // A file that was opened: its number, below 0 if it is missing, or a failure that has been told.
 struct File {

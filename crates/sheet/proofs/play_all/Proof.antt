@@ -12,7 +12,7 @@ use Rattle.sheet.proofs.play_all.Tie as tie
 abbrev Inv-loop : tie.InvT-loop
 Inv-loop fd size cells₀ logs₀ decisions₀ out₀ night₀ left₀ cells logs decisions out night left =
     Played size (record { tables = record { cells = cells; logs = logs; decisions = decisions }; racks = night .racks }) (night .read) (night .taken)
-    × ((length out ≡ length out₀) × (night .read + 512 * left ≤ 512000000000000000))
+    × ((length out ≡ length out₀) × (night .read + 512 * left ≤ 2305843009213693952))
 
 abbrev μ-loop : tie.MeasureT-loop
 μ-loop fd size cells₀ logs₀ decisions₀ out₀ night₀ left₀ cells logs decisions out night left = left
