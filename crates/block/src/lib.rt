@@ -1,31 +1,11 @@
 // What a rack makes of the cells that it has read: its second cell, its result and its news in a lane.
 ghost use mathlib.Core.Path.{_≡_};
 ghost use Prim.Native.Nat.{_≤_};
-ghost use Rattle.model.specs.Record.{noCell};
 ghost use Rattle.model.specs.Block.{equalsOwn, allEqualOwn, higher, greatest, secondCell};
 ghost use Rattle.model.specs.Block.{backsOwn, allBackOwn, sooner, firstCommitted, adoptedValue, result};
 ghost use Rattle.model.specs.Block.{newer, newest, news};
 use model::Cell;
-use model::Cue;
 use model::Value;
-
-// An empty cell.
-fn no_cell() -> Cell
-    ensures { λ c. ⌜ c ≡ noCell ⌝ }
-{
-    let none = Cue {
-        issuer: 0,
-        number: 0,
-    };
-    Cell {
-        mark: 0,
-        value: Value {
-            place: 0,
-            cue: none,
-            previous: none,
-        },
-    }
-}
 
 // A first cell that is empty or "equals it".
 fn equals_own(own: Value, c: Cell) -> bool
@@ -137,7 +117,7 @@ fn first_committed(seconds: [Cell; 8], n: usize) -> Cell
     requires { ⌜ n ≤ 8 ⌝ }
     ensures { λ c. ⌜ c ≡ firstCommitted seconds n ⌝ }
 {
-    let mut found = no_cell();
+    let mut found = cells::no_cell();
     for i in 0..n {
         let c = seconds[i];
         found = sooner(found, c);
@@ -207,7 +187,7 @@ pub fn news(firsts: [Cell; 8], seconds: [Cell; 8], n: usize) -> Value
     requires { ⌜ n ≤ 8 ⌝ }
     ensures { λ v. ⌜ v ≡ news firsts seconds n ⌝ }
 {
-    let none = no_cell();
+    let none = cells::no_cell();
     let first = newest(firsts, none, n);
     let last = newest(seconds, first, n);
     last.value

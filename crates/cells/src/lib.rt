@@ -2,7 +2,7 @@
 ghost use mathlib.Core.Path.{_≡_};
 ghost use Prim.Native.Nat.{_+_, _*_, _≤_, _<_};
 ghost use lib.ListN.{length};
-ghost use Rattle.model.specs.Record.{sameCue, sameValue, sameCell, cellAt, storeCell};
+ghost use Rattle.model.specs.Record.{noValue, noCell, sameCue, sameValue, sameCell, cellAt, storeCell};
 ghost use Rattle.model.specs.Table.{offers, readCell, writeCell};
 ghost use Rattle.model.specs.Step.{offersOf};
 ghost use Rattle.cells.specs.Here.{Here};
@@ -12,6 +12,32 @@ use model::Cue;
 use model::Rack;
 use model::Size;
 use model::Value;
+
+// No value: five zeros.
+pub fn no_value() -> Value
+    ensures { λ v. ⌜ v ≡ noValue ⌝ }
+{
+    let none = Cue {
+        issuer: 0,
+        number: 0,
+    };
+    Value {
+        place: 0,
+        cue: none,
+        previous: none,
+    }
+}
+
+// An empty cell.
+pub fn no_cell() -> Cell
+    ensures { λ c. ⌜ c ≡ noCell ⌝ }
+{
+    let none = no_value();
+    Cell {
+        mark: 0,
+        value: none,
+    }
+}
 
 // The record at index `at`: mark, place, issuer, number, previous issuer, previous number.
 pub fn load(table: &[u8], at: usize) -> Cell

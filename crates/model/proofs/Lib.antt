@@ -3,3 +3,4 @@ pub mod Sizes
 pub mod Record
 pub mod Table
 pub mod Order
+pub mod Turns

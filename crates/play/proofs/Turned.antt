@@ -1,14 +1,14 @@
 -- A turn on a card that fits and is sound: it is the turn of the rack that its record names, and that is bad, refused by a later test, or taken.
 use mathlib.Core.Path.{_≡_}
 use mathlib.Core.List.{List}
-use mathlib.Core.Bool.{true, false, not, _&&_, _||_}
+use mathlib.Core.Bool.{true, false, _&&_}
 use Prim.Native.Nat.{ℕ, _<_}
 use native.Mathlib.Omega.{arith}
-use borrow.Author.Tests.{eqb-true, ne-eqb, leb-false, lt-ltb, not-false}
-use lib.Dec.{eqb, leb}
-use lib.ListN.{length, getD, set}
+use borrow.Author.Tests.{ne-eqb, lt-ltb}
+use lib.Dec.{eqb}
+use lib.ListN.{set}
 use lib.Seq.{set-getD}
-use Rattle.laws.proofs.Cases.{either, bool, and-true, or-false}
+use Rattle.laws.proofs.Cases.{either, bool, and-true}
 use Rattle.laws.proofs.Below.{below-at}
 use Rattle.model.specs.declared.Size.{Size}
 use Rattle.model.specs.declared.Rack.{Rack}
@@ -17,22 +17,11 @@ use Rattle.model.specs.Step.{After, stepped, step}
 use Rattle.model.specs.Sound.{soundCells, soundDecisions, soundLogs, soundTables, soundRack, soundState, soundRacks, sound}
 use Rattle.model.specs.Turn.{Outcome, badRecord, rackOf, laneNamed, sourceNamed, refusalOf, refusal, turned}
 use Rattle.model.proofs.Sizes.{sizes, fits-size}
+use Rattle.model.proofs.Turns.{good}
 use Rattle.step.specs.Ready.{Tested}
 use Rattle.step.proofs.Ready.{tested}
 use Rattle.play.specs.Playable.{Playable}
 use Rattle.play.specs.Rack.{RackOutcome, rackNamed, rackTurned}
-
--- a record that is not bad: four bytes, and a rack that is there
-pub record Good (s : Size) (turn : List ℕ) : Type 0 where
-  pub four : length turn ≡ 4
-  pub there : rackOf turn < s .racks
-
-pub good : (s : Size) (turn : List ℕ) → badRecord s turn ≡ false → Good s turn
-unfolding badRecord
-good s turn e =
-    let a = or-false (not (eqb (length turn) 4)) (not (eqb (getD turn 3 0) 0) || leb (s .racks) (rackOf turn)) e in
-    let b = or-false (not (eqb (getD turn 3 0) 0)) (leb (s .racks) (rackOf turn)) (a .1) in
-    record { four = eqb-true (length turn) 4 (not-false _ (a .0)); there = leb-false (s .racks) (rackOf turn) (b .1) }
 
 module _ (s : Size) (card : Card) (p : Playable s card) where
   -- what the tests of the card say of one rack

@@ -1,8 +1,7 @@
--- "A refusal returns its number and zeros; tables, states and lists stay as before."
+-- "A refusal returns its number and zeros; tables, states and lists stay as before." For a turn: `turn-stays` in model's proofs.
 use mathlib.Core.Path.{_≡_, refl}
 use mathlib.Core.List.{List}
 use Prim.Native.Nat.{ℕ}
-use borrow.Author.Tests.{ne-eqb}
 use lib.ListN.{replicate}
 use Rattle.laws.proofs.Cases.{either, bool}
 use Rattle.model.specs.declared.Size.{Size}
@@ -11,16 +10,11 @@ use Rattle.model.specs.declared.Entry.the-variants as entry
 use Rattle.model.specs.declared.Code.{Code}
 use Rattle.model.specs.declared.Code.the-variants as code
 use Rattle.model.specs.Record.{noCue}
-use Rattle.model.specs.Table.{Tables, Card}
-use Rattle.model.specs.Turn.{fits, refusal, turned}
+use Rattle.model.specs.Table.{Tables}
+use Rattle.model.specs.Turn.{fits}
 use Rattle.model.specs.Fresh.{zeroRack, filled}
 use Rattle.model.specs.Logs.{entryNumber, entryCue}
 use Rattle.model.specs.Cues.{listsFit, badCue, addCue, codeNumber, codeValue}
-
--- a refused turn leaves the tables and the racks
-pub turn-stays : (s : Size) (c : Card) (turn : List ℕ) → (turned s c turn .number ≡ 0 → ⊥) → turned s c turn .card ≡ c
-unfolding turned
-turn-stays s c turn n = rw (ne-eqb (refusal s c turn) 0 n)
 
 -- a refused fresh leaves the tables, and its racks are zeros
 pub fresh-stays : (s : Size) (t : Tables) → (filled s t .number ≡ 0 → ⊥) → filled s t .card ≡ record { tables = t; racks = replicate 8 zeroRack }

@@ -1,18 +1,18 @@
 -- A turn of any bytes, taken or refused, keeps a card steady: its lengths exact, sound, and of the shape that the types say.
 use mathlib.Core.Path.{_≡_}
 use mathlib.Core.List.{List}
-use mathlib.Core.Bool.{true, false, not}
-use Prim.Native.Nat.{ℕ, _<_}
-use borrow.Author.Tests.{eqb-true, leb-false}
-use lib.Dec.{eqb, leb}
-use lib.ListN.{length, getD}
-use Rattle.laws.proofs.Cases.{either, bool, or-false}
+use mathlib.Core.Bool.{true, not}
+use Prim.Native.Nat.{ℕ}
+use borrow.Author.Tests.{eqb-true}
+use lib.Dec.{eqb}
+use Rattle.laws.proofs.Cases.{either, bool}
 use Rattle.model.specs.declared.Size.{Size}
 use Rattle.model.specs.Table.{Card}
 use Rattle.model.specs.Shape.{Shape}
 use Rattle.model.specs.Step.{step}
 use Rattle.model.specs.Sound.{sound}
 use Rattle.model.specs.Turn.{fits, rackOf, laneNamed, sourceNamed, badRecord, refusal, turned}
+use Rattle.model.proofs.Turns.{good}
 use Rattle.steady.proofs.Refusals.{passed}
 use Rattle.steady.proofs.Step.{step-fits, step-sound, step-shape}
 
@@ -22,13 +22,6 @@ pub record Steady (s : Size) (card : Card) : Type 0 where
   pub ok : sound s card ≡ true
 
 module _ (s : Size) where
-  rack-there : (turn : List ℕ) → badRecord s turn ≡ false → rackOf turn < s .racks
-  unfolding badRecord
-  rack-there turn e =
-      let p = or-false (not (eqb (length turn) 4)) _ e in
-      let q = or-false (not (eqb (getD turn 3 0) 0)) (leb (s .racks) (rackOf turn)) (p .1) in
-      leb-false (s .racks) (rackOf turn) (q .1)
-
   module _ (card : Card) (turn : List ℕ) where
     abbrev moved : Card
     moved = step s card (rackOf turn) (laneNamed turn) (sourceNamed turn)
@@ -40,7 +33,7 @@ module _ (s : Size) where
         let exact = passed (not (fits s (card .tables))) 0 _ e in
         let tables-ok = passed (not (sound s card)) 1 _ (exact .1) in
         let good-record = passed (badRecord s turn) 2 _ (tables-ok .1) in
-        let there = rack-there turn (good-record .0) in
+        let there = good s turn (good-record .0) .there in
         record {
           shape = step-shape s card (rackOf turn) (laneNamed turn) (sourceNamed turn) (h .shape) (h .fit) (h .ok) there (good-record .1);
           fit = step-fits s card (rackOf turn) (laneNamed turn) (sourceNamed turn) (h .shape) (h .fit) (h .ok) there (good-record .1);

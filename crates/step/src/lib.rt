@@ -2,7 +2,6 @@
 ghost use mathlib.Core.Path.{_≡_};
 ghost use Prim.Native.Nat.{_<_};
 ghost use Rattle.model.specs.declared.Kind.the-variants.{FirstRead, SecondRead};
-ghost use Rattle.model.specs.Record.{noValue, noCell};
 ghost use Rattle.model.specs.Table.{decisionIndex, decisionAt};
 ghost use Rattle.model.specs.Kind.{kindOf};
 ghost use Rattle.model.specs.Step.{advanced, endingRound, proposal, afterFirstRead, secondGathered, blockEnded, afterSecondRead, stepped};
@@ -10,37 +9,10 @@ ghost use Rattle.model.specs.Turn.{refusalOf};
 ghost use Rattle.step.specs.After.{offering, firstWriting, secondWriting, answering, secondReading};
 ghost use Rattle.step.specs.Ready.{Ready, InRound, AtCells, InBlock, AtDecisions, Decided, Settling};
 use model::Cell;
-use model::Cue;
 use model::Kind;
 use model::Rack;
 use model::Size;
 use model::Value;
-
-// No value: five zeros.
-fn no_value() -> Value
-    ensures { λ v. ⌜ v ≡ noValue ⌝ }
-{
-    let none = Cue {
-        issuer: 0,
-        number: 0,
-    };
-    Value {
-        place: 0,
-        cue: none,
-        previous: none,
-    }
-}
-
-// An empty cell.
-fn no_cell() -> Cell
-    ensures { λ c. ⌜ c ≡ noCell ⌝ }
-{
-    let none = no_value();
-    Cell {
-        mark: 0,
-        value: none,
-    }
-}
 
 // The rack one step on.
 fn advanced(r: Rack) -> Rack
@@ -175,7 +147,7 @@ fn block_ended(cells: &[u8], size: Size, rack: usize, r: Rack, gathered: Rack) -
     let seconds = gathered.seconds;
     let result = block::result(seconds, own, value, size.racks);
     let news = block::news(firsts, seconds, size.racks);
-    let none = no_cell();
+    let none = cells::no_cell();
     let empty = [none; 8];
     let mut q = gathered;
     q.firsts = empty;
@@ -203,8 +175,8 @@ fn round_ended(r: Rack) -> Rack
     requires { ⌜ r .round < 255 ⌝ }
     ensures { λ q. ⌜ q ≡ endingRound r ⌝ }
 {
-    let none = no_cell();
-    let nothing = no_value();
+    let none = cells::no_cell();
+    let nothing = cells::no_value();
     let results = [none; 4];
     let news = [nothing; 4];
     let mut q = r;

@@ -1,19 +1,17 @@
 -- Refusals 2 and 8 never come in a night from a fresh card: every card that is reached is sound, and no log gets longer than R.
 use mathlib.Core.Path.{_≡_, refl}
 use mathlib.Core.Logic.{_≢_}
-use mathlib.Core.Bool.{Bool, true, false, cond, not}
+use mathlib.Core.Bool.{Bool, true, false, cond}
 use mathlib.Core.List.{List}
-use Prim.Native.Nat.{ℕ, _<_}
+use Prim.Native.Nat.{ℕ}
 use native.Mathlib.Omega.{arith}
-use borrow.Author.Tests.{leb-false}
-use lib.Dec.{eqb, leb}
-use lib.ListN.{length, getD}
-use Rattle.laws.proofs.Cases.{either, bool, clash-bool, or-false}
+use Rattle.laws.proofs.Cases.{either, bool, clash-bool}
 use Rattle.model.specs.declared.Size.{Size}
 use Rattle.model.specs.declared.Rack.{Rack}
 use Rattle.model.specs.Size.{sizeFits}
 use Rattle.model.specs.Table.{Tables, Card, rackAt}
 use Rattle.model.specs.Turn.{rackOf, laneNamed, sourceNamed, badRecord, finished, misnamed, notOffered, decidedElse, overfull, refusalOf, turned}
+use Rattle.model.proofs.Turns.{good}
 use Rattle.night.specs.Machine.{card, reached}
 use Rattle.night.proofs.Demand.Tied.{Tie}
 use Rattle.night.proofs.Demand.Reached.{historyOf, reached-steady, reached-tied}
@@ -29,13 +27,6 @@ answer P false false true d e four five six seven eight zero = six
 answer P false false false true e four five six seven eight zero = seven
 answer P false false false false true four five six seven eight zero = eight refl
 answer P false false false false false four five six seven eight zero = zero
-
-rack-there : (s : Size) (t : List ℕ) → badRecord s t ≡ false → rackOf t < s .racks
-unfolding badRecord
-rack-there s t e =
-    let p = or-false (not (eqb (length t) 4)) _ e in
-    let q = or-false (not (eqb (getD t 3 0) 0)) (leb (s .racks) (rackOf t)) (p .1) in
-    leb-false (s .racks) (rackOf t) (q .1)
 
 module _ (s : Size) (t : Tables) (rack : ℕ) (r : Rack) (lane source : ℕ) (P : ℕ → Type 0) where
   number-of : P 4 → P 5 → P 6 → P 7 → (overfull s t rack r ≡ true → P 8) → P 0 → P (refusalOf s t rack r lane source)
@@ -67,5 +58,5 @@ module _ (s : Size) (e : sizeFits s ≡ true) (turns : List (List ℕ)) (t : Lis
       of-answer (λ x. x ≢ 8) (omega arith)
       (λ g. number-of s (C .tables) (rackOf t) (rackAt (C .racks) (rackOf t)) (laneNamed t) (sourceNamed t) (λ x. x ≢ 8)
       (omega arith) (omega arith) (omega arith) (omega arith)
-      (λ o. clash-bool o (not-overfull s C (historyOf s turns) (reached-tied s tie e turns) (rackOf t) (rack-there s t g)))
+      (λ o. clash-bool o (not-overfull s C (historyOf s turns) (reached-tied s tie e turns) (rackOf t) (good s t g .there)))
       (omega arith))

@@ -13,6 +13,7 @@ use Rattle.model.specs.Size.{sizeFits}
 use Rattle.model.specs.Table.{Card}
 use Rattle.model.specs.Turn.{fits, rackOf, turned}
 use Rattle.model.specs.Fresh.{freshCard}
+use Rattle.model.proofs.Turns.{turn-stays}
 use Rattle.steady.proofs.Turn.{Steady, turn-steady}
 use Rattle.steady.proofs.Fresh.{fresh-fits, fresh-sound, fresh-shape}
 use Rattle.protocol.specs.AdoptCommit.{Marked}
@@ -27,7 +28,7 @@ use Rattle.protocol.proofs.Clock.{turn-clocked, fresh-clocked}
 use Rattle.night.specs.Machine.{card, from, reached, takenFrom, taken}
 use Rattle.night.specs.View.{View, turnOf, movesFrom}
 use Rattle.night.proofs.View.Logs.{same-test}
-use Rattle.night.proofs.View.Turn.{refused-stays, turn-accepted, turn-view}
+use Rattle.night.proofs.View.Turn.{turn-accepted, turn-view}
 use Rattle.night.proofs.View.Fresh.{fresh-view}
 
 pub view-after : (s : Size) (c : Card) (h : History Marked) (turns : List (List ℕ)) → Steady s c
@@ -45,7 +46,7 @@ view-after s c h (turn ∷ turns) steady inv clocked v =
     (turn-view s c h steady inv clocked v turn e)))
     (λ (d : turned s c turn .number ≢ 0).
     rw (ne-eqb (turned s c turn .number) 0 d)
-    (view-after s (turned s c turn .card) h turns (turn-steady s c turn steady) inv clocked (rw (refused-stays s c turn d) v)))
+    (view-after s (turned s c turn .card) h turns (turn-steady s c turn steady) inv clocked (rw (turn-stays s c turn d) v)))
 
 pub taken-after : (s : Size) (c : Card) (h : History Marked) (turns : List (List ℕ)) → Steady s c
     → Invariant first-edition (s .racks) (s .lanes) h → Clocked first-edition (s .racks) (s .lanes) h → View s c h
@@ -64,7 +65,7 @@ taken-after s c h (turn ∷ turns) steady inv clocked v q l =
     rw (eq-eqb (turned s c turn .number) 0 e, same-test (rackOf turn) q, turn-accepted s c h steady inv clocked v turn e)
     (either (bool (eqb q (rackOf turn))) (λ b. rw b (omega arith)) (λ b. rw b (omega arith))))
     (λ (d : turned s c turn .number ≢ 0).
-    let rest = taken-after s (turned s c turn .card) h turns (turn-steady s c turn steady) inv clocked (rw (refused-stays s c turn d) v) q l in
+    let rest = taken-after s (turned s c turn .card) h turns (turn-steady s c turn steady) inv clocked (rw (turn-stays s c turn d) v) q l in
     rw (ne-eqb (turned s c turn .number) 0 d) (omega arith))
 
 -- from a fresh table

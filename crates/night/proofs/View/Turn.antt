@@ -1,15 +1,14 @@
--- A turn of any bytes: one that the card takes is accepted by the history, and the card still shows it; a refused one changes nothing.
+-- A turn of any bytes: one that the card takes is accepted by the history, and the card still shows it.
 use mathlib.Core.Path.{_≡_, sym}
 use mathlib.Core.Logic.{_≢_}
 use mathlib.Core.List.{List}
-use mathlib.Core.Bool.{true, false, not}
+use mathlib.Core.Bool.{true, not}
 use Prim.Native.Nat.{ℕ, _<_}
 use native.Mathlib.Omega.{arith}
-use borrow.Author.Tests.{eq-eqb, ne-eqb, leb-false}
-use lib.Dec.{eqb, leb}
-use lib.ListN.{length, getD, set}
+use borrow.Author.Tests.{eq-eqb}
+use lib.ListN.{length, set}
 use lib.Seq.{getD-set-same, getD-set-other}
-use Rattle.laws.proofs.Cases.{either, eq-or-ne, or-false}
+use Rattle.laws.proofs.Cases.{either, eq-or-ne}
 use Rattle.model.specs.declared.Size.{Size}
 use Rattle.model.specs.declared.Rack as card
 use Rattle.model.specs.Table.{Card, noRack, rackAt}
@@ -17,6 +16,7 @@ use Rattle.model.specs.Step.{After, stepped, step}
 use Rattle.model.specs.Sound.{sound}
 use Rattle.model.specs.Turn.{fits, rackOf, laneNamed, sourceNamed, badRecord, refusalOf, refusal, turned}
 use Rattle.model.proofs.Sizes.{Sizes, sizes, fits-size, fits-exact}
+use Rattle.model.proofs.Turns.{good}
 use Rattle.steady.proofs.Facts.{CardSound}
 use Rattle.steady.proofs.Tested.{card-facts}
 use Rattle.steady.proofs.Kept.{Ready}
@@ -34,11 +34,6 @@ use Rattle.night.proofs.View.Seen.{same-view, same-part}
 use Rattle.night.proofs.View.Tables.{TablesView}
 use Rattle.night.proofs.View.Step.{Followed, step-followed}
 
--- "A refusal returns its number and zeros; tables, states and lists stay as before."
-pub refused-stays : (s : Size) (c : Card) (turn : List ℕ) → turned s c turn .number ≢ 0 → turned s c turn .card ≡ c
-unfolding turned
-refused-stays s c turn d = rw (ne-eqb (refusal s c turn) 0 d)
-
 tables-of : (s : Size) (c : Card) (h : History Marked) → View s c h → TablesView s (c .tables) h
 tables-of s c h v =
     record {
@@ -48,13 +43,6 @@ tables-of s c h v =
       decisions-shown = v .decisions-shown;
       logs-shown = v .logs-shown;
     }
-
-rack-there : (s : Size) (turn : List ℕ) → badRecord s turn ≡ false → rackOf turn < s .racks
-unfolding badRecord
-rack-there s turn e =
-    let p = or-false (not (eqb (length turn) 4)) _ e in
-    let q = or-false (not (eqb (getD turn 3 0) 0)) (leb (s .racks) (rackOf turn)) (p .1) in
-    leb-false (s .racks) (rackOf turn) (q .1)
 
 module _ (s : Size) (c : Card) (h : History Marked) (steady : Steady s c) (inv : Invariant first-edition (s .racks) (s .lanes) h)
     (clocked : Clocked first-edition (s .racks) (s .lanes) h) (v : View s c h) (turn : List ℕ) where
@@ -134,7 +122,7 @@ module _ (s : Size) (c : Card) (h : History Marked) (steady : Steady s c) (inv :
         let exact = passed (not (fits s (c .tables))) 0 _ taken in
         let tables-ok = passed (not (sound s c)) 1 _ (exact .1) in
         let good-record = passed (badRecord s turn) 2 _ (tables-ok .1) in
-        (rack-there s turn (good-record .0), good-record .1)
+        (good s turn (good-record .0) .there, good-record .1)
 
     pub turn-accepted : accepts first-edition (s .racks) (s .lanes) h (turnOf turn) ≡ true
     turn-accepted = followed (not-refused .0) (not-refused .1) .accepted

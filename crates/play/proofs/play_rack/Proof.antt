@@ -4,9 +4,10 @@ use mathlib.Core.Bool.{false}
 use native.Mathlib.Omega.{arith}
 use borrow.Author.Needs.{needs}
 use Rattle.model.specs.Turn.{badRecord, rackOf}
+use Rattle.model.proofs.Turns.{Good, good}
 use Rattle.step.specs.Ready.{Tested}
 use Rattle.step.proofs.Ready.{ready, unrefused}
-use Rattle.play.proofs.Turned.{Good, good, rack-bad, rack-refused, rack-taken}
+use Rattle.play.proofs.Turned.{rack-bad, rack-refused, rack-taken}
 use Rattle.play.proofs.play_rack.Statement.{statement}
 use Rattle.play.proofs.play_rack.Tie as tie
 

@@ -4,8 +4,8 @@ use mathlib.Core.Bool.{false}
 use native.Mathlib.Omega.{arith}
 use borrow.Author.Needs.{needs}
 use Rattle.model.specs.Turn.{badRecord}
+use Rattle.model.proofs.Turns.{good}
 use Rattle.play.specs.Rack.{rackNamed}
-use Rattle.play.proofs.Turned.{good}
 use Rattle.play.proofs.rack_named.Statement.{statement}
 use Rattle.play.proofs.rack_named.Tie as tie
 

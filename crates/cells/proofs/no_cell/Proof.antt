@@ -1,7 +1,7 @@
 -- The value is `no_value`.
 use borrow.Author.Needs.{needs}
-use Rattle.step.proofs.no_cell.Statement.{statement}
-use Rattle.step.proofs.no_cell.Tie as tie
+use Rattle.cells.proofs.no_cell.Statement.{statement}
+use Rattle.cells.proofs.no_cell.Tie as tie
 
 returns : tie.Need-returns
 returns c = rw (c .no-value .ensures)
