@@ -2,12 +2,13 @@
 //! sheets is held to this one, byte for byte, on kept nights and on made ones.
 
 use std::io::{self, Write};
-use std::path::{Path, PathBuf};
+use std::path::Path;
 use std::process::Command;
 
 use crate::compare::{first_difference, folders_below};
 use crate::files::with_path;
 use crate::maker::make;
+use crate::scratch::Scratch;
 use crate::sheet::sheet_of_folder;
 
 /// Runs a program on every night below a folder, then on nights made from `count` seeds, and
@@ -40,8 +41,8 @@ pub fn hold(
     let scratch = Scratch::new()?;
     for seed in (seed..).take(usize::try_from(count).unwrap_or(usize::MAX)) {
         let night = make(seed);
-        night.files.write(&scratch.folder, night.empty)?;
-        let difference = difference_on(&program, &scratch.folder)?;
+        night.files.write(scratch.folder(), night.empty)?;
+        let difference = difference_on(&program, scratch.folder())?;
         tally(difference, &format!("seed {seed}"), out)?;
     }
     writeln!(out, "seeds from {seed}, {count} of them")?;
@@ -59,24 +60,4 @@ fn difference_on(program: &Path, folder: &Path) -> io::Result<Option<String>> {
         .map_err(|error| with_path(program, error))?;
     Ok(first_difference(&expected, &got.stdout)
         .map(|(line, expected, got)| format!("sheet line {line}: expected {expected}, got {got}")))
-}
-
-/// A folder of its own for made nights, removed in the end.
-struct Scratch {
-    folder: PathBuf,
-}
-
-impl Scratch {
-    fn new() -> io::Result<Scratch> {
-        let folder = std::env::temp_dir().join(format!("second-{}", std::process::id()));
-        std::fs::create_dir_all(&folder).map_err(|error| with_path(&folder, error))?;
-        Ok(Scratch { folder })
-    }
-}
-
-impl Drop for Scratch {
-    fn drop(&mut self) {
-        // Nothing is lost if the folder stays.
-        let _ = std::fs::remove_dir_all(&self.folder);
-    }
 }

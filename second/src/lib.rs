@@ -3,6 +3,7 @@
 //! "P1 to P12 stand as a single table under a single theorem; other nights are
 //! run against an independent second program."
 
+pub mod bench;
 pub mod block;
 pub mod cell;
 pub mod check_turns;
@@ -17,6 +18,7 @@ pub mod rack;
 pub mod random;
 pub mod records;
 pub mod refusal;
+pub mod scratch;
 pub mod settle;
 pub mod sheet;
 pub mod sizes;

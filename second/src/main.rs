@@ -7,6 +7,8 @@ use std::io::{self, BufReader, BufWriter, ErrorKind, Read, Write};
 use std::path::Path;
 use std::process::ExitCode;
 
+use second::bench::measure::Program;
+use second::bench::{bench, Pair, Plan, Programs};
 use second::check_turns::check_turns;
 use second::compare::compare;
 use second::files::{open_named, read, EmptyFile, Named, PIECE};
@@ -17,7 +19,7 @@ use second::text::{pack, show_folder};
 
 const USAGE: &str = "usage: second sheet [FOLDER] | check-turns [FILE] | make SEED FOLDER [COUNT] \
                      | pack TEXT FOLDER | show FOLDER | compare NIGHTS \
-                     | hold PROGRAM NIGHTS SEED COUNT";
+                     | hold PROGRAM NIGHTS SEED COUNT | bench SHEET NIGHT [TURNS]";
 
 fn main() -> ExitCode {
     let arguments: Vec<OsString> = env::args_os().skip(1).collect();
@@ -56,6 +58,8 @@ fn run(arguments: &[OsString], out: &mut impl Write) -> Option<io::Result<bool>>
         }
         ("pack", [text, folder]) => pack_file(Path::new(text), Path::new(folder)),
         ("show", [folder]) => show_folder(Path::new(folder), out),
+        ("bench", [sheet, night]) => bench_programs(sheet, night, None, out),
+        ("bench", [sheet, night, turns]) => bench_programs(sheet, night, Some(turns), out),
         ("compare", [nights]) => return Some(compare(Path::new(nights), out)),
         ("hold", [program, nights, seed, count]) => {
             let (seed, count) = (number(seed)?, number(count)?);
@@ -89,4 +93,22 @@ fn pack_file(text: &Path, folder: &Path) -> io::Result<()> {
         io::Error::new(ErrorKind::InvalidData, format!("{}:{bad}", text.display()))
     })?;
     files.write(folder, EmptyFile::Written)
+}
+
+/// Measures the proved program beside this one, which is run as any other program is.
+fn bench_programs(
+    sheet: &OsStr,
+    night: &OsStr,
+    turns: Option<&OsStr>,
+    out: &mut impl Write,
+) -> io::Result<()> {
+    let program = |path: &OsStr| Program::new(Path::new(path));
+    let programs = Programs {
+        sheets: Pair {
+            proved: program(sheet)?,
+            second: Program::new(&env::current_exe()?)?.with("sheet"),
+        },
+        turns: turns.map(program).transpose()?,
+    };
+    bench(&programs, Path::new(night), &Plan::WHOLE, out)
 }

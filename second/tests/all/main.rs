@@ -1,5 +1,6 @@
 //! The tests of the second program, in one binary so that it is linked once.
 
+mod bench;
 mod block;
 mod check_turns;
 mod driver;

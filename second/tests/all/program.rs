@@ -77,7 +77,7 @@ fn errors_are_one_line() {
     scratch.write("bad.txt", b"turn 0\nturn\n");
     scratch.write("night/size.rec", &[1, 1, 1, 0]);
     fs::create_dir_all(scratch.0.join("night/turns.rec")).expect("a folder");
-    let failing: [&[&str]; 7] = [
+    let failing: [&[&str]; 9] = [
         &["sheet", "night"],
         &["show", "night"],
         &["sheet", "bad.txt"],
@@ -85,6 +85,8 @@ fn errors_are_one_line() {
         &["pack", "none.txt", "out"],
         &["check-turns", "none"],
         &["compare", "none"],
+        &["bench", "none", "night"],
+        &["bench", "bad.txt", "night"],
     ];
     for arguments in failing {
         let (out, error, status) = run(&scratch.0, arguments, "");
@@ -98,13 +100,14 @@ fn errors_are_one_line() {
 #[test]
 fn wrong_usage_gets_the_usage() {
     let scratch = Scratch::new("usage");
-    let wrong: [&[&str]; 6] = [
+    let wrong: [&[&str]; 7] = [
         &[],
         &["sheets"],
         &["sheet", "a", "b"],
         &["make", "x", "folder"],
         &["make", "1"],
         &["pack", "a"],
+        &["bench", "a"],
     ];
     for arguments in wrong {
         let (out, error, status) = run(&scratch.0, arguments, "");
