@@ -18,8 +18,18 @@ use Rattle.steady.proofs.Turn.{Steady, turn-steady}
 use Rattle.text.specs.Written.{Written, write}
 use Rattle.text.proofs.Written.{behind, moved}
 use Rattle.text.proofs.Lines.{refused-most}
-use Rattle.tell.specs.Turns.{Telling, tellTurns, replyText, tellTurn, pieceEnd, TurnsReady}
+use Rattle.tell.specs.Turns.{Telling, tellTurns, replyText, pieceEnd, TurnsReady}
 use Rattle.tell.proofs.Pieces.{pieces-none, pieces-next, fewer}
+
+-- one turn played and told
+unfoldable pub tellTurn : Size → Card → List ℕ → ℕ → ℕ → ℕ → List ℕ → Telling
+tellTurn s card out place index taken turn =
+    let outcome = turned s card turn in
+    record {
+      card = outcome .card;
+      text = write out place (replyText index (outcome .number));
+      taken = taken + cond (eqb (outcome .number) 0) 1 0;
+    }
 
 -- a choice of two small numbers is small
 cond-small : (b : Bool) (x y : ℕ) → x ≤ 8 → y ≤ 8 → cond b x y ≤ 8

@@ -9,7 +9,7 @@ use Rattle.model.specs.declared.Size.{Size}
 use Rattle.model.specs.Table.{Card}
 use Rattle.model.specs.Shape.{Shape}
 use Rattle.model.specs.Sound.{sound}
-use Rattle.model.specs.Turn.{fits, turned}
+use Rattle.model.specs.Turn.{fits}
 use Rattle.model.specs.Night.{after, replies, pieces}
 use Rattle.model.specs.Sheet.{refusedLine, refusedLines, takenIn}
 use Rattle.text.specs.Written.{Written, write}
@@ -32,16 +32,6 @@ tellTurns s card out place index taken turns =
 -- the line of one reply, none if it is 0
 unfoldable pub replyText : ℕ → ℕ → List ℕ
 replyText index number = cond (eqb number 0) [] (refusedLine index number)
-
--- one turn played and told
-unfoldable pub tellTurn : Size → Card → List ℕ → ℕ → ℕ → ℕ → List ℕ → Telling
-tellTurn s card out place index taken turn =
-    let outcome = turned s card turn in
-    record {
-      card = outcome .card;
-      text = write out place (replyText index (outcome .number));
-      taken = taken + cond (eqb (outcome .number) 0) 1 0;
-    }
 
 -- where the record at a place ends, the last one perhaps short
 unfoldable pub pieceEnd : ℕ → ℕ → ℕ
