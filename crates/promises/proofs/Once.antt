@@ -17,6 +17,8 @@ use Rattle.model.specs.Logs.{logEntry, agree, longer}
 use Rattle.model.specs.Cues.{Listed, addCue, codeOf}
 use Rattle.model.specs.Night.{pieceAt}
 use Rattle.compare.specs.Itself.{longerItself}
+use Rattle.turns.specs.declared.Turns.{Turns}
+use Rattle.turns.specs.Walk.{placeBehind}
 
 -- the law
 once : {O : Type 0} {promised o o′ : O} → o ≡ promised → o′ ≡ promised → o ≡ o′
@@ -58,6 +60,31 @@ longer-itself-once a b o o′ p q =
 -- the next turn record
 pub piece-once : (bytes : List ℕ) (at : ℕ) (o o′ : Piece) → o ≡ pieceAt bytes at → o′ ≡ pieceAt bytes at → o ≡ o′
 piece-once bytes at o o′ p q = once p q
+
+pub next-once : (turns : Turns) (o o′ : Piece)
+    → o ≡ pieceAt (now (turns .bytes)) (turns .at) → o′ ≡ pieceAt (now (turns .bytes)) (turns .at) → o ≡ o′
+next-once turns o o′ p q = once p q
+
+pub first-once : (bytes : List ℕ) (o o′ : Piece) → o ≡ pieceAt bytes 0 → o′ ≡ pieceAt bytes 0 → o ≡ o′
+first-once bytes o o′ p q = once p q
+
+-- a reader handed back: its bytes themselves, as a reference, and its place
+abbrev IsReader : Turns → RefT (List ℕ) → ℕ → Type 0
+IsReader o bytes at = (o .bytes ≡ bytes) × (o .at ≡ at)
+
+reader-once : (bytes : RefT (List ℕ)) (at : ℕ) (o o′ : Turns) → IsReader o bytes at → IsReader o′ bytes at → o ≡ o′
+reader-once bytes at o o′ p q = λ i. record { bytes = once (p .0) (q .0) i; at = once (p .1) (q .1) i }
+
+pub over-once : (bytes : RefT (List ℕ)) (o o′ : Turns) → IsReader o bytes 0 → IsReader o′ bytes 0 → o ≡ o′
+over-once bytes o o′ p q = reader-once bytes 0 o o′ p q
+
+pub moved-once : (turns : Turns) (at : ℕ) (o o′ : Turns) → IsReader o (turns .bytes) at → IsReader o′ (turns .bytes) at → o ≡ o′
+moved-once turns at o o′ p q = reader-once (turns .bytes) at o o′ p q
+
+pub behind-once : (turns o o′ : Turns)
+    → IsReader o (turns .bytes) (placeBehind (turns .at) (pieceAt (now (turns .bytes)) (turns .at)))
+    → IsReader o′ (turns .bytes) (placeBehind (turns .at) (pieceAt (now (turns .bytes)) (turns .at))) → o ≡ o′
+behind-once turns o o′ p q = reader-once _ _ o o′ p q
 
 -- a cue record: the reply and the lists
 pub add-cue-once : (n k : ℕ) (lists cue : List ℕ) (o o′ : Listed) → o ≡ addCue n k lists cue → o′ ≡ addCue n k lists cue → o ≡ o′

@@ -1,7 +1,7 @@
--- A reader that walks the bytes gets the records that `pieces` lists: from each place on, and by each record's index.
-use mathlib.Core.Path.{_≡_, refl, sym, ap, _∙_}
+-- What stands at a place says which records `pieces` lists from there on.
+use mathlib.Core.Path.{_≡_, refl, _∙_}
 use mathlib.Core.List.{List, [], _∷_}
-use Prim.Native.Nat.{ℕ, zero, suc, _+_, _*_, _-_, _≤_, _<_}
+use Prim.Native.Nat.{ℕ, _+_, _-_, _≤_, _<_}
 use native.Mathlib.Omega.{arith}
 use native.Mathlib.Nat.{add-zero}
 use borrow.Author.Tests.{le-leb, lt-leb, lt-ltb, le-ltb}
@@ -12,10 +12,7 @@ use Rattle.model.specs.declared.Turn.{Turn}
 use Rattle.model.specs.declared.Piece.{Piece}
 use Rattle.model.specs.declared.Piece.the-variants.{Whole, Short, End}
 use Rattle.model.specs.Night.{pieceAt, pieces}
-
--- a turn as the four bytes of its record
-abbrev pub turnBytes : Turn → List ℕ
-turnBytes t = t .rack ∷ t .lane ∷ t .source ∷ t .zero ∷ []
+use Rattle.turns.specs.Walk.{turnBytes}
 
 -- the first piece of some bytes
 first-short : (l : List ℕ) → 0 < length l → length l < 4 → pieces l ≡ l ∷ []
@@ -90,62 +87,3 @@ module _ (bytes : List ℕ) (place : ℕ) where
 
   pub end-from : pieceAt bytes place ≡ End → EndFrom bytes place
   end-from e = rw e at says
-
--- the pieces from index i on are those of the bytes from place 4 * i on
-pub pieces-drop : (i : ℕ) (bytes : List ℕ) → drop i (pieces bytes) ≡ pieces (drop (4 * i) bytes)
-unfolding pieces
-pieces-drop zero bytes = refl
-pieces-drop (suc i) bytes =
-    let e : 4 * suc i ≡ suc (suc (suc (suc (4 * i)))) = omega arith in
-    rw e (rest (λ l. pieces-drop i l) bytes)
-  where
-    nothing : drop {A = List ℕ} i [] ≡ []
-    nothing = drop-of-length-le [] {i = i} (omega arith)
-
-    rest : ((l : List ℕ) → drop i (pieces l) ≡ pieces (drop (4 * i) l))
-        → (bytes : List ℕ) → drop (suc i) (pieces bytes) ≡ pieces (drop (suc (suc (suc (suc (4 * i))))) bytes)
-    rest fewer [] = refl
-    rest fewer (a ∷ []) = nothing
-    rest fewer (a ∷ b ∷ []) = nothing
-    rest fewer (a ∷ b ∷ c ∷ []) = nothing
-    rest fewer (a ∷ b ∷ c ∷ d ∷ l) = fewer l
-
--- what a piece that stands at place 4 * i says of record i
-pub record WholeAt (bytes : List ℕ) (i : ℕ) (t : Turn) (next : ℕ) : Type 0 where
-  pub step : next ≡ 4 * i + 4
-  pub there : i < length (pieces bytes)
-  pub is : getD (pieces bytes) i [] ≡ turnBytes t
-
-pub record ShortAt (bytes : List ℕ) (i left : ℕ) : Type 0 where
-  pub last : i + 1 ≡ length (pieces bytes)
-  pub size : length (drop (4 * i) bytes) ≡ left
-  pub is : getD (pieces bytes) i [] ≡ drop (4 * i) bytes
-
-module _ (bytes : List ℕ) (i : ℕ) where
-  -- how many pieces are left, and the first of them
-  left-at : length (pieces bytes) - i ≡ length (pieces (drop (4 * i) bytes))
-  left-at = sym (length-drop i (pieces bytes)) ∙ ap length (pieces-drop i bytes)
-
-  first-at : getD (pieces bytes) i [] ≡ getD (pieces (drop (4 * i) bytes)) 0 []
-  first-at =
-      let e : getD (drop i (pieces bytes)) 0 [] ≡ getD (pieces bytes) i [] = rw add-zero at (getD-drop i (pieces bytes) 0 []) in
-      sym e ∙ ap (λ (l : List (List ℕ)). getD l 0 []) (pieces-drop i bytes)
-
-  pub whole-at : (t : Turn) (next : ℕ) → pieceAt bytes (4 * i) ≡ Whole t next → WholeAt bytes i t next
-  whole-at t next e =
-      let w = whole-from bytes (4 * i) t next e in
-      let n = left-at ∙ ap length (w .front) in
-      record { step = w .step; there = omega arith; is = first-at ∙ ap (λ (l : List (List ℕ)). getD l 0 []) (w .front) }
-
-  pub short-at : (left : ℕ) → pieceAt bytes (4 * i) ≡ Short left → ShortAt bytes i left
-  short-at left e =
-      let s = short-from bytes (4 * i) left e in
-      let n = left-at ∙ ap length (s .all) in
-      record {
-        last = omega arith;
-        size = length-drop (4 * i) bytes ∙ omega (arith, s .inside);
-        is = first-at ∙ ap (λ (l : List (List ℕ)). getD l 0 []) (s .all);
-      }
-
-  pub end-at : pieceAt bytes (4 * i) ≡ End → length (pieces bytes) ≤ i
-  end-at e = let n = left-at ∙ ap length (end-from bytes (4 * i) e .none) in omega arith
