@@ -61,6 +61,10 @@ longer-itself-once a b o o′ p q =
 pub piece-once : (bytes : List ℕ) (at : ℕ) (o o′ : Piece) → o ≡ pieceAt bytes at → o′ ≡ pieceAt bytes at → o ≡ o′
 piece-once bytes at o o′ p q = once p q
 
+-- the place behind it
+pub place-behind-once : (bytes : List ℕ) (at o o′ : ℕ) → o ≡ placeBehind at (pieceAt bytes at) → o′ ≡ placeBehind at (pieceAt bytes at) → o ≡ o′
+place-behind-once bytes at o o′ p q = once p q
+
 pub next-once : (turns : Turns) (o o′ : Piece)
     → o ≡ pieceAt (now (turns .bytes)) (turns .at) → o′ ≡ pieceAt (now (turns .bytes)) (turns .at) → o ≡ o′
 next-once turns o o′ p q = once p q

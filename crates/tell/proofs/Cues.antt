@@ -9,9 +9,9 @@ use lib.ListN.{length, take, drop}
 use lib.Seq.{length-sets}
 use Rattle.laws.proofs.Cases.{either, bool}
 use Rattle.model.specs.Cues.{Listed, listsFit, badCue, listed, addCue}
-use Rattle.model.specs.Night.{pieces}
+use Rattle.model.specs.Night.{pieceAt, pieces}
 use Rattle.model.specs.Sheet.{Loaded, loadCues}
-use Rattle.tell.specs.Turns.{pieceEnd}
+use Rattle.turns.specs.Walk.{placeBehind}
 use Rattle.tell.proofs.Pieces.{pieces-none, end-at, pieces-next}
 
 -- a record added or refused leaves the length, and a refused one the lists
@@ -43,7 +43,7 @@ module _ (n k : ℕ) where
     unfolding loadCues
     adding-last h = rw (pieces-none bytes at h) at (g .left)
 
-    module _ (end : ℕ) (h : at < length bytes) (e : end ≡ pieceEnd (length bytes) at) (a : Listed)
+    module _ (end : ℕ) (h : at < length bytes) (e : end ≡ placeBehind at (pieceAt bytes at)) (a : Listed)
         (f : a ≡ addCue n k lists (take (end - at) (drop at bytes))) where
       kept : Kept lists a
       kept = rw f (add-kept n k lists (take (end - at) (drop at bytes)))

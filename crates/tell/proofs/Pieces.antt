@@ -3,12 +3,12 @@ use mathlib.Core.Path.{_≡_, refl, ap, _∙_}
 use mathlib.Core.List.{List, [], _∷_}
 use Prim.Native.Nat.{ℕ, suc, _+_, _-_, _/_, _≤_, _<_}
 use native.Mathlib.Omega.{arith}
-use borrow.Author.Tests.{lt-ltb, le-ltb}
+use borrow.Author.Tests.{lt-leb, lt-ltb, le-ltb}
 use lib.ListN.{length, take, drop, length-drop, drop-of-length-le}
 use lib.Seq.{take-all, drop-drop}
 use Rattle.laws.proofs.Cases.{either, lt-or-ge}
-use Rattle.model.specs.Night.{pieces}
-use Rattle.tell.specs.Turns.{pieceEnd}
+use Rattle.model.specs.Night.{pieceAt, pieces}
+use Rattle.turns.specs.Walk.{placeBehind}
 
 -- no bytes have no records
 pub pieces-none : (bytes : List ℕ) (at : ℕ) → length bytes ≤ at → pieces (drop at bytes) ≡ []
@@ -30,22 +30,22 @@ pub record EndAt (length at end : ℕ) : Type 0 where
   pub inside : end ≤ length
   pub near : end ≤ at + 4
 
-module _ (bytes : List ℕ) (at end : ℕ) (h : at < length bytes) (e : end ≡ pieceEnd (length bytes) at) where
+module _ (bytes : List ℕ) (at end : ℕ) (h : at < length bytes) (e : end ≡ placeBehind at (pieceAt bytes at)) where
   pub end-at : EndAt (length bytes) at end
-  unfolding pieceEnd
+  unfolding pieceAt
   end-at =
       either (lt-or-ge (length bytes - at) 4)
-      (λ g. let f = rw (lt-ltb _ 4 g) at e in record { later = omega arith; inside = omega arith; near = omega arith })
-      (λ g. let f = rw (le-ltb _ 4 g) at e in record { later = omega arith; inside = omega arith; near = omega arith })
+      (λ g. let f = rw (lt-leb (length bytes) at h, lt-ltb _ 4 g) at e in record { later = omega arith; inside = omega arith; near = omega arith })
+      (λ g. let f = rw (lt-leb (length bytes) at h, le-ltb _ 4 g) at e in record { later = omega arith; inside = omega arith; near = omega arith })
 
   -- the record at a place, and those behind it
   pub pieces-next : pieces (drop at bytes) ≡ take (end - at) (drop at bytes) ∷ pieces (drop end bytes)
-  unfolding pieceEnd
+  unfolding pieceAt
   pieces-next =
       let n = length-drop at bytes in
       let all = first (drop at bytes) (omega arith) in
       either (lt-or-ge (length bytes - at) 4)
-      (λ g. let f = rw (lt-ltb _ 4 g) at e in
+      (λ g. let f = rw (lt-leb (length bytes) at h, lt-ltb _ 4 g) at e in
       all ∙ rw (
         drop-drop,
         take-all 4 (drop at bytes) (omega arith),
@@ -53,7 +53,7 @@ module _ (bytes : List ℕ) (at end : ℕ) (h : at < length bytes) (e : end ≡ 
         drop-of-length-le bytes {i = at + 4} (omega arith),
         drop-of-length-le bytes {i = end} (omega arith),
       ))
-      (λ g. let f = rw (le-ltb _ 4 g) at e in
+      (λ g. let f = rw (lt-leb (length bytes) at h, le-ltb _ 4 g) at e in
       let d : end - at ≡ 4 = omega arith in
       all ∙ rw (drop-drop, d, f))
 

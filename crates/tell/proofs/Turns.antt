@@ -12,13 +12,14 @@ use Rattle.model.specs.declared.Size.{Size}
 use Rattle.model.specs.Table.{Card, rackAt}
 use Rattle.model.specs.Sound.{sound}
 use Rattle.model.specs.Turn.{Outcome, fits, badRecord, finished, misnamed, notOffered, decidedElse, overfull, refusalOf, refusal, turned, rackOf, laneNamed, sourceNamed}
-use Rattle.model.specs.Night.{after, replies, pieces}
+use Rattle.model.specs.Night.{after, replies, pieceAt, pieces}
 use Rattle.model.specs.Sheet.{refusedLine, refusedLines, takenIn}
 use Rattle.steady.proofs.Turn.{Steady, turn-steady}
 use Rattle.text.specs.Written.{Written, write}
 use Rattle.text.proofs.Written.{behind, moved}
 use Rattle.text.proofs.Lines.{refused-most}
-use Rattle.tell.specs.Turns.{Telling, tellTurns, replyText, pieceEnd, TurnsReady}
+use Rattle.turns.specs.Walk.{placeBehind}
+use Rattle.tell.specs.Turns.{Telling, tellTurns, replyText, TurnsReady}
 use Rattle.tell.proofs.Pieces.{pieces-none, pieces-next, fewer}
 
 -- one turn played and told
@@ -173,7 +174,7 @@ module _ (s : Size) where
         }
 
     pub going-next : (t u : Telling) (number at end : ℕ) → Going card₀ bytes out₀ index₀ t number at → at < length bytes
-        → end ≡ pieceEnd (length bytes) at
+        → end ≡ placeBehind at (pieceAt bytes at)
         → u ≡ tellTurn s (t .card) (t .text .bytes) (t .text .place) number (t .taken) (take (end - at) (drop at bytes))
         → Going card₀ bytes out₀ index₀ u (number + 1) end
     going-next t u number at end g h e f =

@@ -2,8 +2,8 @@
 use mathlib.Core.Path.{_≡_}
 use mathlib.Core.List.{List, []}
 use mathlib.Core.Bool.{true, cond}
-use Prim.Native.Nat.{ℕ, _+_, _*_, _-_, _≤_, _<_, _^_}
-use lib.Dec.{eqb, ltb}
+use Prim.Native.Nat.{ℕ, _+_, _*_, _≤_, _<_, _^_}
+use lib.Dec.{eqb}
 use lib.ListN.{length}
 use Rattle.model.specs.declared.Size.{Size}
 use Rattle.model.specs.Table.{Card}
@@ -32,10 +32,6 @@ tellTurns s card out place index taken turns =
 -- the line of one reply, none if it is 0
 unfoldable pub replyText : ℕ → ℕ → List ℕ
 replyText index number = cond (eqb number 0) [] (refusedLine index number)
-
--- where the record at a place ends, the last one perhaps short
-unfoldable pub pieceEnd : ℕ → ℕ → ℕ
-pieceEnd length at = cond (ltb (length - at) 4) length (at + 4)
 
 -- what a piece of turns requires: a card that fits and is sound, of the shape that its type says, and room for a line of each record
 pub record TurnsReady (s : Size) (card : Card) (bytes out : List ℕ) (index : ℕ) : Type 0 where

@@ -7,7 +7,7 @@ ghost use lib.Dec.{eqb};
 ghost use mathlib.Core.Bool.{cond};
 ghost use Rattle.text.specs.Written.{write, LineRoom};
 ghost use Rattle.model.specs.Night.{pieces};
-ghost use Rattle.tell.specs.Turns.{TurnsReady, replyText, tellTurns, pieceEnd};
+ghost use Rattle.tell.specs.Turns.{TurnsReady, replyText, tellTurns};
 ghost use Rattle.tell.specs.Log.{EntriesReady, LogReady, entriesText, logText};
 use model::Rack;
 use model::Size;
@@ -47,17 +47,6 @@ pub fn size_given(bytes: &[u8]) -> bool
     fit & zero
 }
 
-// Where the record at a place ends: "a last piece under 4 bytes is given out once as a short record".
-fn piece_end(length: usize, at: usize) -> usize
-    requires { ⌜ at < length ⌝ }
-    ensures { λ r. ⌜ r ≡ pieceEnd length at ⌝ }
-{
-    if length - at < 4 {
-        return length;
-    }
-    at + 4
-}
-
 // How many records a piece has, the last one perhaps short.
 pub fn records_in(bytes: &[u8]) -> u64
     requires { ⌜ length (now bytes) < 2 ^ 63 ⌝ }
@@ -79,7 +68,7 @@ pub fn tell_cues(racks: usize, lanes: usize, lists: &mut [u8], bytes: &[u8]) -> 
     let mut index: u64 = 0;
     let mut at: usize = 0;
     while at < bytes.len() {
-        let end = piece_end(bytes.len(), at);
+        let end = turns::place_behind(bytes, at);
         let number = cues::add_cue(racks, lanes, lists, &bytes[at..end]);
         if number != 0 {
             return Added { number, index };
@@ -187,7 +176,7 @@ pub fn tell_turns(
     let mut number = index;
     let mut at: usize = 0;
     while at < bytes.len() {
-        let end = piece_end(bytes.len(), at);
+        let end = turns::place_behind(bytes, at);
         let rack = play::rack_named(size, &bytes[at..end]);
         let r = all[rack];
         let played = play::play_rack(size, cells, logs, decisions, r, &bytes[at..end]);

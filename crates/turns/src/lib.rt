@@ -32,7 +32,7 @@ pub fn piece_at(bytes: &[u8], at: usize) -> Piece
 }
 
 // The place behind what stands at a place.
-fn place_behind(bytes: &[u8], at: usize) -> usize
+pub fn place_behind(bytes: &[u8], at: usize) -> usize
     ensures { λ r. ⌜ r ≡ placeBehind at (pieceAt (now (bytes .entry)) at) ⌝ }
 {
     let piece = piece_at(bytes, at);

@@ -18,14 +18,14 @@ loop-holds : tie.Need-loop-holds Inv-loop μ-loop
 loop-holds c = adding-first _ _ _ _
 
 -- where the record ends
-ends : (c : tie.After-piece-end Inv-loop μ-loop) → EndAt (length (c .before .before .before .before .before .args .bytes .now)) (c .before .before .loop .at) (c .piece-end .result)
-ends c = end-at (c .before .before .before .before .before .args .bytes .now) _ _ (c .before .loop-test .taken) (c .piece-end .ensures)
+ends : (c : tie.After-place-behind Inv-loop μ-loop) → EndAt (length (c .before .before .before .before .before .args .bytes .now)) (c .before .before .loop .at) (c .place-behind .result)
+ends c = end-at (c .before .before .before .before .before .args .bytes .now) _ _ (c .before .loop-test .taken) (c .place-behind .ensures)
 
 same-length : tie.Need-same-length Inv-loop μ-loop
-same-length c = let r = c .before .before .before in adding-same _ _ _ _ _ _ _ (r .before .before .before .before .before .loop .inv) _ (r .before .before .before .before .loop-test .taken) (r .before .before .before .piece-end .ensures) _ (r .add-cue .ensures)
+same-length c = let r = c .before .before .before in adding-same _ _ _ _ _ _ _ (r .before .before .before .before .before .loop .inv) _ (r .before .before .before .before .loop-test .taken) (r .before .before .before .place-behind .ensures) _ (r .add-cue .ensures)
 
 returns : tie.Need-returns Inv-loop μ-loop
-returns c = let r = c .before .before .before in adding-bad _ _ _ _ _ _ _ (r .before .before .before .before .before .loop .inv) _ (r .before .before .before .before .loop-test .taken) (r .before .before .before .piece-end .ensures) _ (r .add-cue .ensures) (c .if1 .taken)
+returns c = let r = c .before .before .before in adding-bad _ _ _ _ _ _ _ (r .before .before .before .before .before .loop .inv) _ (r .before .before .before .before .loop-test .taken) (r .before .before .before .place-behind .ensures) _ (r .add-cue .ensures) (c .if1 .taken)
 
 add-index : tie.Need-add-index Inv-loop μ-loop
 add-index c = let e = c .before .before .before .before .before .before in omega (arith, e .before .before .loop .inv .few, e .before .loop-test .taken)
@@ -34,7 +34,7 @@ loop-less : tie.Need-loop-less Inv-loop μ-loop
 loop-less c = let e = ends (c .before .before .before .before .before .before) in omega (arith, e .later, e .inside)
 
 loop-again : tie.Need-loop-again Inv-loop μ-loop
-loop-again c = let r = c .before .before .before in adding-next _ _ _ _ _ _ _ (r .before .before .before .before .before .loop .inv) _ (r .before .before .before .before .loop-test .taken) (r .before .before .before .piece-end .ensures) _ (r .add-cue .ensures) (c .if1 .left)
+loop-again c = let r = c .before .before .before in adding-next _ _ _ _ _ _ _ (r .before .before .before .before .before .loop .inv) _ (r .before .before .before .before .loop-test .taken) (r .before .before .before .place-behind .ensures) _ (r .add-cue .ensures) (c .if1 .left)
 
 returns-2 : tie.Need-returns-2 Inv-loop μ-loop
 returns-2 c = adding-last _ _ _ _ _ _ _ (c .before .loop .inv) (c .loop-test .left)

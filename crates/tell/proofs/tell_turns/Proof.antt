@@ -34,12 +34,12 @@ loop-holds : tie.Need-loop-holds Inv-loop μ-loop
 loop-holds c = going-first _ _ _ _ _ (c .before .before .before .before .before .pre)
 
 -- where the record ends
-ends : (c : tie.After-piece-end Inv-loop μ-loop) → EndAt (length (c .before .before .before .before .before .before .before .before .args .bytes .now)) (c .before .before .loop .at) (c .piece-end .result)
-ends c = end-at (c .before .before .before .before .before .before .before .before .args .bytes .now) _ _ (c .before .loop-test .taken) (c .piece-end .ensures)
+ends : (c : tie.After-place-behind Inv-loop μ-loop) → EndAt (length (c .before .before .before .before .before .before .before .before .args .bytes .now)) (c .before .before .loop .at) (c .place-behind .result)
+ends c = end-at (c .before .before .before .before .before .before .before .before .args .bytes .now) _ _ (c .before .loop-test .taken) (c .place-behind .ensures)
 
 -- one record is left at least
-less : (c : tie.After-piece-end Inv-loop μ-loop) → 1 ≤ length (pieces (drop (c .before .before .loop .at) (c .before .before .before .before .before .before .before .before .args .bytes .now)))
-less c = omega (arith, fewer (c .before .before .before .before .before .before .before .before .args .bytes .now) _ _ (c .before .loop-test .taken) (c .piece-end .ensures))
+less : (c : tie.After-place-behind Inv-loop μ-loop) → 1 ≤ length (pieces (drop (c .before .before .loop .at) (c .before .before .before .before .before .before .before .before .args .bytes .now)))
+less c = omega (arith, fewer (c .before .before .before .before .before .before .before .before .args .bytes .now) _ _ (c .before .loop-test .taken) (c .place-behind .ensures))
 
 -- the card before the turn
 abbrev card : tie.After-rack-named Inv-loop μ-loop → Card
@@ -69,7 +69,7 @@ loop-again c =
     let named = c .before .before .before .before .before .before .before .before .before .before .before .before .before .before .before .before .before .before in
     let ended = c .before .before .before .before .before .before .before .before .before .before .before .before .before .before .before .before .before .before .before .before in
     let turned = turned-rack _ (card named) (playable named) _ _ (named .rack-named .ensures) _ (c .before .before .before .before .before .before .before .before .before .before .before .before .play-rack .ensures) in
-    going-next _ _ _ _ _ _ _ _ _ _ (ended .before .before .loop .inv) (ended .before .loop-test .taken) (ended .piece-end .ensures)
+    going-next _ _ _ _ _ _ _ _ _ _ (ended .before .before .loop .inv) (ended .before .loop-test .taken) (ended .place-behind .ensures)
     (told-turn _ _ _ _ _ _ _ _ _ _ turned (c .before .before .before .tell-reply .ensures) (c .one-taken .ensures))
 
 -- the lengths are those of the size, before and after
