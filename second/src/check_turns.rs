@@ -9,6 +9,8 @@
 //! agree A B                                      1 or 0
 //! longer A B                                     WHICH LENGTH
 //! ```
+//!
+//! WHICH is 0 for the first log, 1 for the second, 2 where they do not agree.
 
 use std::io::{self, BufRead, BufReader, ErrorKind, Read, Write};
 
@@ -127,9 +129,9 @@ fn entry_case(sizes: [u64; 3], logs: &str, query: [&str; 3]) -> Result<String, S
 fn longer_case(first: &[u8], second: &[u8]) -> Result<String, String> {
     let length = longer(first, second).len();
     let which = match (agree(first, second), length == first.len()) {
-        (false, _) => 0,
-        (true, true) => 1,
-        (true, false) => 2,
+        (true, true) => 0,
+        (true, false) => 1,
+        (false, _) => 2,
     };
     Ok(format!("{which} {length}"))
 }

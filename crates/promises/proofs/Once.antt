@@ -17,6 +17,10 @@ use Rattle.model.specs.Logs.{logEntry, agree, longer}
 use Rattle.model.specs.Cues.{Listed, addCue, codeOf}
 use Rattle.model.specs.Night.{pieceAt}
 use Rattle.compare.specs.Itself.{longerItself}
+use Rattle.ports.specs.declared.EntryAnswer.{EntryAnswer}
+use Rattle.ports.specs.declared.LongerAnswer.{LongerAnswer}
+use Rattle.ports.specs.declared.CodeAnswer.{CodeAnswer}
+use Rattle.ports.specs.Told.{entryTold, agreeTold, longerTold, codeTold}
 use Rattle.turns.specs.declared.Turns.{Turns}
 use Rattle.turns.specs.Walk.{placeBehind}
 
@@ -98,3 +102,18 @@ add-cue-once n k lists cue o o′ p q = once p q
 pub code-once : (n k : ℕ) (lists : List ℕ) (rack lane number : ℕ) (o o′ : Code)
     → o ≡ codeOf n k lists rack lane number → o′ ≡ codeOf n k lists rack lane number → o ≡ o′
 code-once n k lists rack lane number o o′ p q = once p q
+
+-- what a firmware is told in numbers; the other exported calls promise what those above do
+pub entry-told-once : (s : Size) (logs : List ℕ) (rack lane place : ℕ) (o o′ : EntryAnswer)
+    → o ≡ entryTold (logEntry s logs rack lane place) → o′ ≡ entryTold (logEntry s logs rack lane place) → o ≡ o′
+entry-told-once s logs rack lane place o o′ p q = once p q
+
+pub agree-told-once : (a b : List ℕ) (o o′ : ℕ) → o ≡ agreeTold (agree a b) → o′ ≡ agreeTold (agree a b) → o ≡ o′
+agree-told-once a b o o′ p q = once p q
+
+pub longer-told-once : (a b : List ℕ) (o o′ : LongerAnswer) → o ≡ longerTold a b → o′ ≡ longerTold a b → o ≡ o′
+longer-told-once a b o o′ p q = once p q
+
+pub code-told-once : (n k : ℕ) (lists : List ℕ) (rack lane number : ℕ) (o o′ : CodeAnswer)
+    → o ≡ codeTold (codeOf n k lists rack lane number) → o′ ≡ codeTold (codeOf n k lists rack lane number) → o ≡ o′
+code-told-once n k lists rack lane number o o′ p q = once p q

@@ -100,10 +100,10 @@ fn the_other_calls() {
     assert_eq!(answered("agree 0001 00010002"), "1");
     assert_eq!(answered("agree 0001 0002"), "0");
     assert_eq!(answered("agree - -"), "1");
-    assert_eq!(answered("longer 0001 00010002"), "2 4");
-    assert_eq!(answered("longer 0001 0001"), "1 2");
-    assert_eq!(answered("longer - -"), "1 0");
-    assert_eq!(answered("longer 0001 00"), "0 0");
+    assert_eq!(answered("longer 0001 00010002"), "1 4");
+    assert_eq!(answered("longer 0001 0001"), "0 2");
+    assert_eq!(answered("longer - -"), "0 0");
+    assert_eq!(answered("longer 0001 00"), "2 0");
 }
 
 #[test]

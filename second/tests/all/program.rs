@@ -130,7 +130,7 @@ fn check_turns_reads_standard_input() {
     let (out, error, status) = run(&scratch.0, &["check-turns"], "agree - -\nlonger 00 -\n");
     assert_eq!(
         (out.as_str(), error.as_str(), status),
-        ("1\n0 0\n", "", Some(0))
+        ("1\n2 0\n", "", Some(0))
     );
     let (out, error, status) = run(&scratch.0, &["check-turns"], "agree - -\nagree x -\n");
     assert_eq!((out.as_str(), status), ("1\n", Some(1)));
