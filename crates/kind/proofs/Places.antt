@@ -2,22 +2,20 @@
 use mathlib.Core.Path.{_≡_}
 use Prim.Native.Nat.{ℕ, _+_, _*_, _-_, _≤_, _<_}
 use native.Mathlib.Omega.{arith}
-use native.Mathlib.Nat.{mod-lt, div-add-mod', div-lt-iff-lt-mul}
+use native.Mathlib.Nat.{div-lt-iff-lt-mul}
 use borrow.Author.Tests.{lt-ltb, le-ltb, eq-eqb, ne-eqb}
 use Rattle.laws.proofs.Cases.{either, eq-or-ne, lt-or-ge}
 use Rattle.model.proofs.Order.{lane-below}
+use Rattle.model.proofs.Place.{block-long, place-below}
+use Rattle.model.proofs.Ranges.{by-kind}
 use Rattle.laws.proofs.Index.{product-le}
 use Rattle.model.specs.declared.Size.{Size}
 use Rattle.model.specs.declared.Kind.{Kind}
 use Rattle.model.specs.declared.Kind.the-variants.{Offer, Answer, FirstWrite, FirstRead, SecondWrite, SecondRead}
 use Rattle.model.specs.Size.{blockSteps, roundSteps}
-use Rattle.model.specs.Kind.{kindOf, kindIn, blockAt, placeAt, firstRead, secondRead, laneOf, blockOf}
+use Rattle.model.specs.Kind.{kindOf, blockAt, placeAt, firstRead, secondRead, laneOf, blockOf}
 
 module _ (s : Size) where
-  pub steps-some : 0 < blockSteps s
-  unfolding blockSteps
-  steps-some = omega arith
-
   pub steps-most : s .racks ≤ 8 → blockSteps s ≤ 18
   unfolding blockSteps
   steps-most h = omega arith
@@ -30,20 +28,12 @@ module _ (s : Size) where
   unfolding roundSteps
   round-steps-most h g = omega (arith, round-most h g)
 
-  pub place-below : (step : ℕ) → placeAt s step < blockSteps s
-  unfolding placeAt
-  place-below step = mod-lt (step - 2) steps-some
-
-  -- a step by its block and its place
-  pub step-split : (step : ℕ) → 2 ≤ step → step ≡ 2 + (blockAt s step * blockSteps s + placeAt s step)
-  unfolding blockAt placeAt
-  step-split step h = omega (arith, div-add-mod' (step - 2) (blockSteps s))
-
   pub block-below : (step : ℕ) → 1 ≤ s .lanes → step < roundSteps s → blockAt s step < s .lanes
   unfolding blockAt roundSteps
   block-below step h g =
-      let b = product-le {a = 1} {b = 1} {x = s .lanes} {y = blockSteps s} h steps-some in
-      div-lt-iff-lt-mul {k = blockSteps s} {x = step - 2} {y = s .lanes} steps-some .1 (omega arith)
+      let some = block-long s in
+      let b = product-le {a = 1} {b = 1} {x = s .lanes} {y = blockSteps s} h (omega arith) in
+      div-lt-iff-lt-mul {k = blockSteps s} {x = step - 2} {y = s .lanes} (omega arith) .1 (omega arith)
 
   pub lane-at-below : (first step : ℕ) → 1 ≤ s .lanes → first < s .lanes → step < roundSteps s → laneOf first (blockAt s step) < s .lanes
   lane-at-below first step h g l = lane-below first (s .lanes) (blockAt s step) g (block-below step h l)
@@ -72,28 +62,15 @@ Range s step FirstRead = Among s step 1 (s .racks)
 Range s step SecondWrite = Among s step (s .racks + 1) (s .racks + 1)
 Range s step SecondRead = Among s step (s .racks + 2) (2 * s .racks + 1)
 
-in-block : (s : Size) (step : ℕ) → 2 ≤ step → Range s step (kindIn s (placeAt s step))
-unfolding kindIn blockSteps
-in-block s step h =
-    let n = s .racks in
-    let p = placeAt s step in
-    let b = place-below s step in
-    either (lt-or-ge p 1)
-    (λ (l : p < 1). rw (lt-ltb p 1 l) (record { later = h; from = omega arith; to = omega arith }))
-    (λ (g : 1 ≤ p). either (lt-or-ge p (n + 1))
-    (λ (l : p < n + 1). rw (le-ltb p 1 g, lt-ltb p (n + 1) l) (record { later = h; from = g; to = omega arith }))
-    (λ (k : n + 1 ≤ p). either (lt-or-ge p (n + 2))
-    (λ (l : p < n + 2). rw (le-ltb p 1 g, le-ltb p (n + 1) k, lt-ltb p (n + 2) l) (record { later = h; from = k; to = omega arith }))
-    (λ (m : n + 2 ≤ p). rw (le-ltb p 1 g, le-ltb p (n + 1) k, le-ltb p (n + 2) m) (record { later = h; from = m; to = omega arith }))))
-
 range : (s : Size) (step : ℕ) → Range s step (kindOf s step)
-unfolding kindOf
+unfolding blockSteps
 range s step =
-    either (lt-or-ge step 1)
-    (λ (l : step < 1). rw (lt-ltb step 1 l) (omega arith))
-    (λ (g : 1 ≤ step). either (lt-or-ge step 2)
-    (λ (l : step < 2). rw (le-ltb step 1 g, lt-ltb step 2 l) (omega arith))
-    (λ (m : 2 ≤ step). rw (le-ltb step 1 g, le-ltb step 2 m) (in-block s step m)))
+    let b = place-below s step in
+    by-kind s (Range s step) step (λ e. e) (λ e. e)
+    (λ h e. record { later = h; from = omega arith; to = omega arith })
+    (λ h f t. record { later = h; from = f; to = t })
+    (λ h e. record { later = h; from = omega arith; to = omega arith })
+    (λ h f. record { later = h; from = f; to = omega arith })
 
 module _ (s : Size) (step : ℕ) where
   pub offer-step : kindOf s step ≡ Offer → step ≡ 0

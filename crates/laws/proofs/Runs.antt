@@ -60,3 +60,10 @@ module _ {A : Type 0} where
       let e2 : take k (drop a m) ≡ sets (take k (drop a l)) i vs = ap (take k) e1 ∙ take-sets-in vs (drop a l) k i h in
       let e3 : drop k (drop a m) ≡ drop k (drop a l) = ap (drop k) e1 ∙ drop-sets vs (drop a l) k i h in
       rw (← e0, ← e2, ← e3, take-append-drop k (drop a m), take-append-drop a m)
+
+  -- a run of stores behind another is one run
+  pub sets-append : (xs ys l : List A) (a : ℕ) → sets (sets l a xs) (a + length xs) ys ≡ sets l a (xs ++ ys)
+  sets-append [] ys l a = rw add-zero
+  sets-append (x ∷ xs) ys l a =
+      let e : a + suc (length xs) ≡ suc a + length xs = omega arith in
+      rw e (sets-append xs ys (set l a x) (suc a))

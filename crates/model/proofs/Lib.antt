@@ -4,3 +4,5 @@ pub mod Record
 pub mod Table
 pub mod Order
 pub mod Turns
+pub mod Place
+pub mod Ranges

@@ -7,7 +7,6 @@ pub mod Admitted
 pub mod Marks
 pub mod Work
 pub mod LastRead
-pub mod Lasting
 pub mod Room
 pub mod Unrefused
 pub mod Ended

@@ -27,4 +27,5 @@ pub mod Clock
 pub mod HowFar
 pub mod Lanes
 pub mod Entries
+pub mod Lasting
 pub mod Theorem

@@ -1,53 +1,45 @@
 -- A round's last step is the read of a second cell, and test 8 reads two tables only.
-use mathlib.Core.Path.{_≡_, refl, _∙_}
+use mathlib.Core.Path.{_≡_, refl}
 use mathlib.Core.Bool.{true}
-use Prim.Native.Nat.{ℕ, _+_, _*_, _-_, _≤_}
+use Prim.Native.Nat.{ℕ, _+_, _-_, _≤_}
 use native.Mathlib.Omega.{arith}
-use native.Mathlib.Nat.{add-mul}
+use native.Mathlib.Nat.{le-refl}
 use borrow.Author.Tests.{eqb-true, le-ltb}
-use Rattle.laws.proofs.Index.{same-column}
+use Rattle.laws.proofs.Index.{product-le}
 use Rattle.model.specs.declared.Size.{Size}
 use Rattle.model.specs.declared.Rack.{Rack}
 use Rattle.model.specs.declared.Kind.the-variants.{SecondRead}
 use Rattle.model.specs.Size.{blockSteps, roundSteps}
-use Rattle.model.specs.Kind.{kindOf, kindIn, blockAt, placeAt}
+use Rattle.model.specs.Kind.{kindOf, kindIn, placeAt}
 use Rattle.model.specs.Step.{isLast}
 use Rattle.model.specs.Table.{Tables}
 use Rattle.model.specs.Turn.{overfull}
 use Rattle.model.proofs.Sizes.{Sizes}
-use Rattle.kind.proofs.Places.{step-split, place-below}
+use Rattle.model.proofs.Place.{block-long, stands, block-below, last-place}
 use Rattle.refusal.specs.Tests.{overfullIn}
 
 module _ (s : Size) (r : Rack) (z : Sizes s) (last : isLast s r ≡ true) where
-  whole : r .step + 1 ≡ 2 + s .lanes * blockSteps s
-  unfolding isLast roundSteps
+  whole : r .step + 1 ≡ roundSteps s
+  unfolding isLast
   whole = eqb-true (r .step + 1) (roundSteps s) last
 
-  -- k blocks are k - 1 blocks and one more
-  blocks : s .lanes * blockSteps s ≡ (s .lanes - 1) * blockSteps s + blockSteps s
-  blocks =
-      let e : s .lanes ≡ s .lanes - 1 + 1 = omega (arith, z .lanes-low) in
-      let d = add-mul (s .lanes - 1) 1 (blockSteps s) in
-      rw (← e) at d ∙ omega arith
-
-  -- a block has at least four steps
-  four : 4 ≤ blockSteps s
-  unfolding blockSteps
-  four = omega (arith, z .racks-low)
-
+  -- a round has at least one block
   later : 2 ≤ r .step
-  later = omega (arith, whole, blocks, four)
+  unfolding roundSteps
+  later =
+      let b = block-long s in
+      let e = product-le {a = 1} {b = blockSteps s} {x = s .lanes} {y = blockSteps s} (z .lanes-low) (le-refl (blockSteps s)) in
+      omega (arith, whole)
 
   -- its place is the last of its block
-  last-place : placeAt s (r .step) ≡ blockSteps s - 1
-  last-place =
-      same-column {n = blockSteps s} (blockAt s (r .step)) (placeAt s (r .step)) (s .lanes - 1) (blockSteps s - 1)
-      (place-below s (r .step)) (omega (arith, four))
-      (omega (arith, whole, blocks, four, later, step-split s (r .step) later))
+  at-end : placeAt s (r .step) + 1 ≡ blockSteps s
+  at-end =
+      let at = stands s (r .step) later in
+      last-place s (r .step) _ _ at whole (block-below s (r .step) _ _ at (omega (arith, whole)))
 
   past : s .racks + 2 ≤ placeAt s (r .step)
   unfolding blockSteps
-  past = omega (arith, last-place, z .racks-low)
+  past = omega (arith, at-end, z .racks-low)
 
   pub last-kind : kindOf s (r .step) ≡ SecondRead
   unfolding kindOf kindIn

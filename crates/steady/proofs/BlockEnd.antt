@@ -17,7 +17,7 @@ use Rattle.model.specs.Shape.{RackShape}
 use Rattle.model.specs.Kind.{placeAt, blockAt, laneAt, stepsIn, firstsRead, secondsRead}
 use Rattle.model.specs.Block.{result, news}
 use Rattle.model.specs.Step.{own, endingBlock}
-use Rattle.steady.proofs.Place.{stands, stands-over, stands-place, last-block}
+use Rattle.model.proofs.Place.{stands, stands-over, stands-place, last-block}
 use Rattle.model.proofs.Order.{block-below}
 use Rattle.steady.proofs.Visits.{all-taken, here-after, else-after}
 use Rattle.steady.proofs.Facts.{Done, Outcome, RackSound}

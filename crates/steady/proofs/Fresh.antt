@@ -21,7 +21,7 @@ use Rattle.model.specs.Turn.{fits}
 use Rattle.model.specs.Fresh.{table, ownFirst, freshRack, zeroRack, freshTables, freshRacks, freshCard}
 use Rattle.model.proofs.Same.{same-cue, same-value}
 use Rattle.model.proofs.Record.{cell-bytes, spare-bytes, entry-bytes}
-use Rattle.steady.proofs.Place.{block-long}
+use Rattle.model.proofs.Place.{block-long}
 use Rattle.steady.proofs.Visits.{none-taken, no-firsts, no-seconds}
 use Rattle.model.proofs.Sizes.{Sizes, sizes, exact-fits}
 use Rattle.steady.proofs.Facts.{RackSound, CardSound}

@@ -14,7 +14,7 @@ use Rattle.model.specs.Kind.{laneAt, blockAt, firstsRead, secondsRead, stepsIn}
 use Rattle.model.specs.Step.{winning, After}
 use Rattle.model.specs.Sound.{soundCells, soundDecisions, soundLogs}
 use Rattle.model.proofs.Table.{Spot}
-use Rattle.steady.proofs.Place.{stands, block-below}
+use Rattle.model.proofs.Place.{stands, block-below}
 use Rattle.model.proofs.Order.{lane-below}
 use Rattle.steady.proofs.Visits.{no-firsts, no-seconds}
 use Rattle.model.proofs.Sizes.{Sizes, Exact}

@@ -14,7 +14,7 @@ use Rattle.model.specs.Record.{isEmpty}
 use Rattle.model.specs.Table.{Tables, offers, cellNow}
 use Rattle.model.specs.Kind.{stepsIn}
 use Rattle.model.specs.Step.{winning}
-use Rattle.steady.proofs.Place.{block-long}
+use Rattle.model.proofs.Place.{block-long}
 use Rattle.steady.proofs.Visits.{none-taken, no-firsts, no-seconds}
 use Rattle.steady.proofs.Facts.{First, Chosen, RackSound}
 

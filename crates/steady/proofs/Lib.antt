@@ -1,5 +1,4 @@
 pub mod Tests
-pub mod Place
 pub mod Visits
 pub mod Facts
 pub mod Tested
@@ -24,7 +23,6 @@ pub mod Append
 pub mod Next
 pub mod Settling
 pub mod RoundEnd
-pub mod Ranges
 pub mod Refusals
 pub mod Step
 pub mod Elements

@@ -14,7 +14,7 @@ use Rattle.model.specs.Size.{blockSteps, roundSteps}
 use Rattle.model.specs.Record.{noValue, noCell, isEmpty, cellAt}
 use Rattle.model.specs.Table.{Tables, firstCells, secondCells, cellNow, resultAt, newsAt}
 use Rattle.model.specs.Kind.{placeAt, laneOf, laneAt, stepsIn, firstsRead, secondsRead}
-use Rattle.steady.proofs.Place.{stands, stands-block, stands-place, stands-on, last-place}
+use Rattle.model.proofs.Place.{stands, stands-block, stands-place, stands-on, last-place}
 use Rattle.steady.proofs.Visits.{here-before, here-after, else-after}
 use Rattle.steady.proofs.Facts.{Gathered, ReadBack, Written, Outcome, RackSound}
 use Rattle.steady.proofs.Kept.{block-there}

@@ -15,7 +15,7 @@ use Rattle.model.specs.Table.{Tables}
 use Rattle.model.specs.Kind.{placeAt}
 use Rattle.model.specs.Settle.{Settled, settleLanes, tooLong}
 use Rattle.model.specs.Step.{endingRound, After}
-use Rattle.steady.proofs.Place.{block-long}
+use Rattle.model.proofs.Place.{block-long}
 use Rattle.steady.proofs.Visits.{none-taken, no-firsts, no-seconds}
 use Rattle.steady.proofs.Facts.{Gathered, RackSound}
 use Rattle.steady.proofs.Kept.{Ready, Kept}

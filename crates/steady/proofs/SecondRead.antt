@@ -13,7 +13,7 @@ use Rattle.model.specs.Table.{Tables, secondCells, cellNow}
 use Rattle.model.specs.Kind.{placeAt, laneAt, firstsRead, secondsRead}
 use Rattle.model.specs.Step.{gatheringSecond}
 use Rattle.model.specs.Sound.{soundCell}
-use Rattle.steady.proofs.Place.{stands}
+use Rattle.model.proofs.Place.{stands}
 use Rattle.steady.proofs.Facts.{Gathered, ReadBack, RackSound}
 use Rattle.steady.proofs.Gather.{gather-some, gather-none}
 use Rattle.steady.proofs.Kept.{Ready, Kept}

@@ -20,13 +20,13 @@ use Rattle.model.specs.Settle.{tooLong}
 use Rattle.model.specs.Step.{secondGathered, blockEnded, afterSecondRead, isLast, After, settled, secondReadTaken, stepBy, stepped, step}
 use Rattle.model.specs.Sound.{sound}
 use Rattle.model.specs.Turn.{fits, overfull, refusalOf}
-use Rattle.steady.proofs.Place.{stands}
+use Rattle.model.proofs.Place.{stands}
 use Rattle.model.proofs.Sizes.{Sizes, sizes, fits-size, fits-exact, exact-fits}
 use Rattle.steady.proofs.Facts.{CardSound}
 use Rattle.steady.proofs.Tested.{card-facts, facts-card}
 use Rattle.steady.proofs.Kept.{Ready, Kept, stays}
 use Rattle.steady.proofs.Onward.{not-last}
-use Rattle.steady.proofs.Ranges.{by-kind}
+use Rattle.model.proofs.Ranges.{by-kind}
 use Rattle.steady.proofs.Refusals.{Allowed, allowed, round-left, lane-named, source-named, has-offer, lane-free}
 use Rattle.steady.proofs.Offer.{offer-keeps}
 use Rattle.steady.proofs.Answer.{answer-keeps}

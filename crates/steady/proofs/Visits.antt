@@ -10,7 +10,7 @@ use Rattle.model.specs.declared.Size.{Size}
 use Rattle.model.specs.declared.Rack.{Rack}
 use Rattle.model.specs.Size.{blockSteps}
 use Rattle.model.specs.Kind.{blockAt, placeAt, laneOf, laneAt, blockOf, stepsIn, firstsRead, secondsRead}
-use Rattle.steady.proofs.Place.{rows, Stands, stands}
+use Rattle.model.proofs.Place.{rows, Stands, stands}
 
 module _ (s : Size) where
   -- nothing is taken or read before the first block

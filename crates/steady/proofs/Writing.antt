@@ -19,7 +19,7 @@ use Rattle.model.specs.Block.{secondCell}
 use Rattle.model.specs.Step.{advanced, own, proposal, firstWritten, secondWritten, stepBy}
 use Rattle.model.specs.Sound.{markFits, soundValue, soundCell}
 use Rattle.model.proofs.Table.{Spot}
-use Rattle.steady.proofs.Place.{block-long}
+use Rattle.model.proofs.Place.{block-long}
 use Rattle.steady.proofs.Facts.{Gathered, ReadBack, RackSound}
 use Rattle.steady.proofs.Cells.{full-value, sound-cell, cell-sound, cell-written}
 use Rattle.steady.proofs.Decisions.{decided-source}

@@ -1,22 +1,15 @@
 -- Texts written one behind the other.
 use mathlib.Core.Path.{_≡_, refl, ap, _∙_}
 use mathlib.Core.List.{List, [], _∷_, _++_}
-use Prim.Native.Nat.{ℕ, suc, _+_, _≤_, _<_}
+use Prim.Native.Nat.{ℕ, _+_, _≤_, _<_}
 use native.Mathlib.Omega.{arith}
-use native.Mathlib.Nat.{add-zero}
 use native.Mathlib.Numerals.{add-one}
 use lib.ListN.{length, getD, take, set, length-append}
 use lib.Seq.{sets, length-sets, length-take-le, take-suc}
+use Rattle.laws.proofs.Runs.{sets-append}
 use Rattle.text.specs.Written.{Written, write}
 
--- a run of stores behind another is one run
-pub sets-append : {A : Type 0} (xs ys l : List A) (a : ℕ) → sets (sets l a xs) (a + length xs) ys ≡ sets l a (xs ++ ys)
-sets-append [] ys l a = rw add-zero
-sets-append (x ∷ xs) ys l a =
-    let e : a + suc (length xs) ≡ suc a + length xs = omega arith in
-    rw e (sets-append xs ys (set l a x) (suc a))
-
--- so is a text behind another
+-- a text behind another is one text
 pub behind : (l : List ℕ) (a : ℕ) (xs ys : List ℕ) {v w : Written}
     → v ≡ write l a xs → w ≡ write (v .bytes) (v .place) ys → w ≡ write l a (xs ++ ys)
 unfolding write

@@ -1,13 +1,13 @@
 -- The quotient is the text of `blockAt`; its divisor is not zero.
 use native.Mathlib.Omega.{arith}
 use Rattle.model.specs.Kind.{blockAt}
-use Rattle.kind.proofs.Places.{steps-some}
+use Rattle.model.proofs.Place.{block-long}
 use borrow.Author.Needs.{needs}
 use Rattle.kind.proofs.block_at.Statement.{statement}
 use Rattle.kind.proofs.block_at.Tie as tie
 
 div-result : tie.Need-div-result
-div-result c = omega (arith, steps-some (c .before .before .args .size))
+div-result c = omega (arith, block-long (c .before .before .args .size))
 
 returns : tie.Need-returns
 unfolding blockAt

@@ -1,13 +1,13 @@
 -- The remainder is the text of `placeAt`; its divisor is not zero.
 use native.Mathlib.Omega.{arith}
 use Rattle.model.specs.Kind.{placeAt}
-use Rattle.kind.proofs.Places.{steps-some}
+use Rattle.model.proofs.Place.{block-long}
 use borrow.Author.Needs.{needs}
 use Rattle.kind.proofs.place_at.Statement.{statement}
 use Rattle.kind.proofs.place_at.Tie as tie
 
 rem-result : tie.Need-rem-result
-rem-result c = omega (arith, steps-some (c .before .before .args .size))
+rem-result c = omega (arith, block-long (c .before .before .args .size))
 
 returns : tie.Need-returns
 unfolding placeAt

@@ -2,7 +2,8 @@
 use borrow.Author.Tests.{lt-ltb, le-ltb, le-leb, lt-leb}
 use native.Mathlib.Omega.{arith}
 use Rattle.kind.specs.Stretch.{stretch}
-use Rattle.kind.proofs.Places.{place-below, steps-most}
+use Rattle.model.proofs.Place.{place-below}
+use Rattle.kind.proofs.Places.{steps-most}
 use borrow.Author.Needs.{needs}
 use Rattle.kind.proofs.stretched.Statement.{statement}
 use Rattle.kind.proofs.stretched.Tie as tie

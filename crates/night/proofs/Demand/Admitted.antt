@@ -16,7 +16,7 @@ use Rattle.model.specs.Table.{Card, offers, readCell, undecided, decisionAt, ra
 use Rattle.model.specs.Step.{isLast}
 use Rattle.model.specs.Turn.{badRecord, rackOf, laneNamed, sourceNamed, finished, misnamed, notOffered, decidedElse, overfull, refusalOf, refusal, turned}
 use Rattle.model.proofs.Sizes.{sizes, fits-size}
-use Rattle.steady.proofs.Place.{block-long}
+use Rattle.model.proofs.Place.{block-long}
 use Rattle.steady.proofs.Leading.{round-long}
 use Rattle.steady.proofs.Refusals.{allowed, lane-named, source-named, has-offer, lane-free}
 use Rattle.steady.proofs.Turn.{Steady}

@@ -28,7 +28,7 @@ use Rattle.protocol.specs.History.{History, move, turn, after, freshHistory}
 use Rattle.protocol.proofs.Put.{putAt-same}
 use Rattle.protocol.proofs.FirstEdition.{first-lawful}
 use Rattle.protocol.proofs.Turn.{turn-invariant}
-use Rattle.steady.proofs.Ranges.{by-kind}
+use Rattle.model.proofs.Ranges.{by-kind}
 use Rattle.night.specs.Machine.{card, from, reached}
 use Rattle.night.specs.Demands.{Ends}
 use Rattle.night.specs.View.{markedCell, turnOf, movesFrom}
@@ -36,7 +36,7 @@ use Rattle.night.proofs.Demand.Tied.{Tied, Tie}
 use Rattle.night.proofs.Demand.Reached.{after-taken, after-refused, historyOf, fresh-tied, taken-tied, refused-tied}
 use Rattle.night.proofs.Demand.Work.{shown, at-work}
 use Rattle.night.proofs.Demand.LastRead.{ownMove, is-done, last-result, last-news}
-use Rattle.night.proofs.Demand.Lasting.{turn-moves, after-stays}
+use Rattle.protocol.proofs.Lasting.{turn-moves, after-stays}
 
 -- a moment of a night: its card, the history there, and the history that the rest of the night leads to
 pub record Moment (s : Size) (c : Card) (rest : List (List ℕ)) (end : History Marked) : Type 0 where

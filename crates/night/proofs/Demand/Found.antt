@@ -25,15 +25,15 @@ use Rattle.protocol.proofs.Put.{putAt-same, putAt-lane, putAt-round}
 use Rattle.protocol.proofs.Steps.{fresh-taken, own-move}
 use Rattle.protocol.proofs.Others.{turn-apart}
 use Rattle.protocol.proofs.HowFar.{how-far}
-use Rattle.steady.proofs.Place.{stands, block-long}
-use Rattle.steady.proofs.Ranges.{by-kind}
+use Rattle.model.proofs.Place.{stands, block-long}
+use Rattle.model.proofs.Ranges.{by-kind}
 use Rattle.night.specs.Machine.{card, from, reached}
 use Rattle.night.specs.Demands.{stepsTaken}
 use Rattle.night.specs.View.{turnOf, movesFrom}
 use Rattle.night.proofs.Demand.Tied.{Tied, Tie}
 use Rattle.night.proofs.Demand.Reached.{after-taken, after-refused, historyOf, fresh-tied, taken-tied, refused-tied, reached-tied}
 use Rattle.night.proofs.Demand.Work.{block-length, AtWork, shown, small, at-work}
-use Rattle.night.proofs.Demand.Lasting.{turn-moves, turn-still}
+use Rattle.protocol.proofs.Lasting.{turn-moves, turn-still}
 
 -- a turn is rack q's last read in a lane of its round
 pub record LastTurn (s : Size) (c : Card) (t : List ℕ) (q round lane : ℕ) : Type 0 where

@@ -33,7 +33,7 @@ use Rattle.protocol.proofs.FirstEdition.{first-lawful}
 use Rattle.protocol.proofs.Invariant.{InPhase}
 use Rattle.protocol.proofs.Turn.{turn-invariant}
 use Rattle.protocol.proofs.Lanes.{log-within}
-use Rattle.steady.proofs.Place.{Stands, stands, last-block, last-place}
+use Rattle.model.proofs.Place.{Stands, stands, last-block, last-place}
 use Rattle.steady.proofs.Kept.{block-there}
 use Rattle.steady.proofs.Leading.{round-long}
 use Rattle.night.specs.View.{markedCell}
@@ -41,7 +41,7 @@ use Rattle.night.proofs.Demand.Tied.{Tied}
 use Rattle.night.proofs.Demand.Marks.{marked-committed, marked-value}
 use Rattle.night.proofs.Demand.Work.{block-length, AtWork, shown, small, rack-sound, at-work}
 use Rattle.night.proofs.Demand.LastRead.{ownMove, current, is-done, last-result, last-news, other-result, other-news}
-use Rattle.night.proofs.Demand.Lasting.{turn-settles}
+use Rattle.protocol.proofs.Lasting.{turn-settles}
 
 -- either rule makes a log of the table as long as one of the history
 missed-size : (log : settle.Log) (l : Log) (v : Value) → log .length ≡ size l → settle.appendMissed log v .length ≡ size (appendMissed l v)

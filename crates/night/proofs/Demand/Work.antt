@@ -16,7 +16,7 @@ use Rattle.protocol.specs.FirstEdition.{first-edition}
 use Rattle.protocol.specs.History.{Phase, offering, answering, visiting, Rack, History, pastAnswer, laneNow}
 use Rattle.protocol.specs.Clock.{blockLength, stepIn}
 use Rattle.protocol.proofs.Placed.{Now}
-use Rattle.steady.proofs.Place.{Stands, stands-block, stands-place}
+use Rattle.model.proofs.Place.{Stands, stands-block, stands-place}
 use Rattle.steady.proofs.Facts.{RackSound}
 use Rattle.steady.proofs.Tested.{card-facts}
 use Rattle.steady.proofs.Kept.{block-there, lane-there}

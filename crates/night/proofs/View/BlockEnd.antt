@@ -11,7 +11,7 @@ use Rattle.model.specs.Size.{blockSteps, roundSteps}
 use Rattle.model.specs.Table.{Tables}
 use Rattle.model.specs.Kind.{placeAt, laneOf, laneAt, blockOf}
 use Rattle.model.specs.Step.{secondGathered, blockEnded, afterSecondRead, isLast, secondReadTaken, stepBy}
-use Rattle.steady.proofs.Place.{stands-over, stands-block, last-block}
+use Rattle.model.proofs.Place.{stands-over, stands-block, last-block}
 use Rattle.steady.proofs.Kept.{Ready}
 use Rattle.steady.proofs.BlockEnd.{none-gathered, ended}
 use Rattle.protocol.specs.AdoptCommit.{Marked}

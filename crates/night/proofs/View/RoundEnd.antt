@@ -20,7 +20,7 @@ use Rattle.model.specs.Kind.{placeAt, laneOf, laneAt, blockOf}
 use Rattle.model.specs.Settle.{Settled, settleLanes, tooLong}
 use Rattle.model.specs.Step as model
 use Rattle.model.specs.Step.{isLast, secondReadTaken, endingRound, stepBy}
-use Rattle.steady.proofs.Place.{last-block}
+use Rattle.model.proofs.Place.{last-block}
 use Rattle.steady.proofs.Kept.{Ready}
 use Rattle.steady.proofs.BlockEnd.{none-gathered, ended, all-done}
 use Rattle.steady.proofs.Settling.{Settling, settling}

@@ -13,7 +13,7 @@ use Rattle.protocol.specs.History.{Phase, offering, answering, visiting, Histor
 use Rattle.protocol.specs.Clock.{blockLength, stepIn}
 use Rattle.protocol.proofs.Invariant.{InPhase, Invariant}
 use Rattle.protocol.proofs.Placed.{Now, Clocked}
-use Rattle.steady.proofs.Place.{Stands, stands-block, stands-place}
+use Rattle.model.proofs.Place.{Stands, stands-block, stands-place}
 use Rattle.night.specs.View.{RackView}
 
 -- the phase of a step number

@@ -18,7 +18,7 @@ use Rattle.model.specs.Settle.{tooLong}
 use Rattle.model.specs.Step.{After, afterSecondRead, isLast, stepBy, stepped}
 use Rattle.model.specs.Turn.{overfull}
 use Rattle.steady.proofs.Kept.{Ready}
-use Rattle.steady.proofs.Ranges.{by-kind}
+use Rattle.model.proofs.Ranges.{by-kind}
 use Rattle.steady.proofs.Refusals.{Allowed, lane-named, source-named, has-offer, lane-free}
 use Rattle.steady.proofs.BlockEnd.{ended}
 use Rattle.protocol.specs.AdoptCommit.{Marked}

@@ -22,7 +22,7 @@ use Rattle.protocol.specs.History.{History, Turn}
 use Rattle.protocol.specs.Clock.{stepIn}
 use Rattle.protocol.proofs.Put.{putAt-lane}
 use Rattle.protocol.proofs.Invariant.{Invariant}
-use Rattle.steady.proofs.Place.{stands-block, stands-on}
+use Rattle.model.proofs.Place.{stands-block, stands-on}
 use Rattle.steady.proofs.Onward.{onward}
 use Rattle.night.specs.View.{firstOf, secondOf, RackView}
 use Rattle.night.proofs.View.Standing.{Visiting}

@@ -20,6 +20,10 @@ module _ (s : Size) where
   unfolding blockSteps
   block-long = omega arith
 
+  pub place-below : (step : ℕ) → placeAt s step < blockSteps s
+  unfolding placeAt
+  place-below step = let b = block-long in mod-lt (step - 2) (omega arith)
+
   -- a step past the answer, by its block and its place there
   pub record Stands (step block place : ℕ) : Type 0 where
     pub counted : step ≡ 2 + (block * blockSteps s + place)
@@ -28,9 +32,8 @@ module _ (s : Size) where
   pub stands : (step : ℕ) → 2 ≤ step → Stands step (blockAt s step) (placeAt s step)
   unfolding blockAt placeAt
   stands step h =
-      let b = block-long in
       let e = div-add-mod' (step - 2) (blockSteps s) in
-      record { counted = omega arith; below = mod-lt (step - 2) (omega arith) }
+      record { counted = omega arith; below = place-below step }
 
   module _ (step block place : ℕ) (at : Stands step block place) where
     behind : step - 2 ≡ block * blockSteps s + place
