@@ -1,4 +1,4 @@
--- What the program keeps true from one piece of turns to the next.
+-- What the program keeps true from one part of turns.rec to the next.
 use mathlib.Core.Path.{_≡_}
 use mathlib.Core.List.{List}
 use mathlib.Core.Bool.{true}
@@ -17,14 +17,14 @@ pub record Played (s : Size) (card : Card) (read taken : ℕ) : Type 0 where
   pub steady : Steady s card
   pub fewer : taken ≤ read
 
--- what a piece of turns asks: room for its lines and for its count
-pub record PieceReady (s : Size) (card : Card) (read taken : ℕ) (out : List ℕ) : Type 0 where
+-- what a part of turns.rec asks: room for its lines and for its count
+pub record PartReady (s : Size) (card : Card) (read taken : ℕ) (out : List ℕ) : Type 0 where
   pub played : Played s card read taken
   pub room : 65536 ≤ length out
   pub few : read < 2 ^ 62
 
--- what a piece of turns leaves
-pub record PieceDone (s : Size) (card : Card) (before read taken : ℕ) : Type 0 where
+-- what a part of turns.rec leaves
+pub record PartDone (s : Size) (card : Card) (before read taken : ℕ) : Type 0 where
   pub played : Played s card read taken
   pub near : read ≤ before + 512
 

@@ -6,15 +6,15 @@ ghost use Prim.Native.Nat.{_+_, _*_, _≤_, _<_};
 ghost use lib.ListN.{length};
 ghost use Rattle.model.specs.Size.{sizeFits};
 ghost use Rattle.model.specs.Cues.{listsFit};
-ghost use Rattle.sheet.specs.Night.{Played, PieceReady, PieceDone, RackReady, LogsReady};
+ghost use Rattle.sheet.specs.Night.{Played, PartReady, PartDone, RackReady, LogsReady};
 use model::Rack;
 use model::Size;
 
 // How many bytes of turns.rec are read at a time: 512 records.
-const PIECE: usize = 2048;
+const PART: usize = 2048;
 
-// 2^52 pieces are 2^63 bytes, more than a file can have: so the loop over them has an end.
-const PIECES: u64 = 4_503_599_627_370_496;
+// 2^52 parts are 2^63 bytes, more than a file can have: so the loop over them has an end.
+const PARTS: u64 = 4_503_599_627_370_496;
 
 // A file that was opened: its number, below 0 if it is missing, or a failure that has been told.
 struct File {
@@ -94,7 +94,7 @@ fn load(path: &[u8], buf: &mut [u8]) -> Got
     }
 }
 
-// One piece of turns.rec read, played and told.
+// One part of turns.rec read, played and told.
 fn play_some(
     fd: i32,
     size: Size,
@@ -104,14 +104,14 @@ fn play_some(
     night: Night,
     out: &mut [u8],
 ) -> Night
-    requires { ⌜ PieceReady size (record { tables = record { cells = now cells; logs = now logs; decisions = now decisions }; racks = night .racks }) (night .read) (night .taken) (now out) ⌝ }
-    ensures { λ r. ⌜ PieceDone size (record { tables = record { cells = now (cells .exit); logs = now (logs .exit); decisions = now (decisions .exit) }; racks = r .racks }) (night .read) (r .read) (r .taken) ⌝ }
+    requires { ⌜ PartReady size (record { tables = record { cells = now cells; logs = now logs; decisions = now decisions }; racks = night .racks }) (night .read) (night .taken) (now out) ⌝ }
+    ensures { λ r. ⌜ PartDone size (record { tables = record { cells = now (cells .exit); logs = now (logs .exit); decisions = now (decisions .exit) }; racks = r .racks }) (night .read) (r .read) (r .taken) ⌝ }
 {
     let mut buf = [0u8; 2048];
     let n = io::read_full(fd, &mut buf);
     let racks = night.racks;
     let mut fine = true;
-    let whole = n == PIECE;
+    let whole = n == PART;
     if !whole {
         fine = has_ended(fd, b"turns.rec");
     }
@@ -147,7 +147,7 @@ fn play_some(
     }
 }
 
-// All of turns.rec, piece by piece.
+// All of turns.rec, part by part.
 fn play_all(
     fd: i32,
     size: Size,
@@ -157,7 +157,7 @@ fn play_all(
     racks: [Rack; 8],
     out: &mut [u8],
 ) -> Night
-    requires { ⌜ PieceReady size (record { tables = record { cells = now cells; logs = now logs; decisions = now decisions }; racks = racks }) 0 0 (now out) ⌝ }
+    requires { ⌜ PartReady size (record { tables = record { cells = now cells; logs = now logs; decisions = now decisions }; racks = racks }) 0 0 (now out) ⌝ }
     ensures { λ r. ⌜ Played size (record { tables = record { cells = now (cells .exit); logs = now (logs .exit); decisions = now (decisions .exit) }; racks = r .racks }) (r .read) (r .taken) ⌝ }
 {
     let mut night = Night {
@@ -167,7 +167,7 @@ fn play_all(
         more: fd >= 0,
         failed: false,
     };
-    let mut left = PIECES;
+    let mut left = PARTS;
     while left > 0 {
         if !night.more {
             return night;

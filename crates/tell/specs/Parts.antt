@@ -1,5 +1,5 @@
--- What `sheet` writes when turns.rec comes in parts: "turns.rec of any length, read in pieces". Each part is played and told behind the one
--- before; `proofs/Parts` shows that together this is the text of the night.
+-- What `sheet` writes, since it reads turns.rec in parts: each is played and told behind the one before. `proofs/Parts` shows that together
+-- this is the text of the night.
 use mathlib.Core.Path.{_≡_}
 use mathlib.Core.List.{List, [], _∷_, _++_}
 use Prim.Native.Nat.{ℕ, _+_, _*_, _-_}

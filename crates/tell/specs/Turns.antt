@@ -1,4 +1,4 @@
--- A piece of turns played and told: the card afterwards, the refused lines, and how many turns were taken.
+-- A part of turns.rec played and told: the card afterwards, the refused lines, and how many turns were taken.
 use mathlib.Core.Path.{_≡_}
 use mathlib.Core.List.{List, []}
 use mathlib.Core.Bool.{true, cond}
@@ -33,7 +33,7 @@ tellTurns s card out place index taken turns =
 unfoldable pub replyText : ℕ → ℕ → List ℕ
 replyText index number = cond (eqb number 0) [] (refusedLine index number)
 
--- what a piece of turns requires: a card that fits and is sound, of the shape that its type says, and room for a line of each record
+-- what a part of turns.rec requires: a card that fits and is sound, of the shape that its type says, and room for a line of each record
 pub record TurnsReady (s : Size) (card : Card) (bytes out : List ℕ) (index : ℕ) : Type 0 where
   pub shape : Shape card
   pub fit : fits s (card .tables) ≡ true

@@ -47,7 +47,7 @@ pub fn size_given(bytes: &[u8]) -> bool
     fit & zero
 }
 
-// How many records a piece has, the last one perhaps short.
+// How many records a part of turns.rec has, the last one perhaps short.
 pub fn records_in(bytes: &[u8]) -> u64
     requires { ⌜ length (now bytes) < 2 ^ 63 ⌝ }
     ensures { λ r. ⌜ r ≡ length (pieces (now (bytes .entry))) ⌝ }
@@ -155,7 +155,7 @@ fn one_taken(number: u8) -> u64
     0
 }
 
-// "for each refused turn `refused`, its index from 0, its number": plays a piece of turns.rec, whose first record has the index given, and
+// "for each refused turn `refused`, its index from 0, its number": plays a part of turns.rec, whose first record has the index given, and
 // writes the refused lines from the buffer's start on. Soundness is not tested between turns: a turn keeps it.
 pub fn tell_turns(
     size: Size,

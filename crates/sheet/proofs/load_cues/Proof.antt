@@ -1,6 +1,6 @@
 -- The bytes lent are those that were read.
 use borrow.Author.Needs.{needs}
-use Rattle.sheet.proofs.Pieces.{part-length}
+use Rattle.sheet.proofs.Parts.{part-length}
 use Rattle.sheet.proofs.load_cues.Statement.{statement}
 use Rattle.sheet.proofs.load_cues.Tie as tie
 

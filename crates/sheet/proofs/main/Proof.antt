@@ -3,7 +3,7 @@ use mathlib.Core.Path.{sym, _∙_}
 use native.Mathlib.Omega.{arith}
 use borrow.Author.Needs.{needs}
 use borrow.Author.Tests.{not-false}
-use Rattle.sheet.proofs.Pieces.{part-length}
+use Rattle.sheet.proofs.Parts.{part-length}
 use Rattle.sheet.proofs.Sizes.{given}
 use Rattle.sheet.proofs.main.Statement.{statement}
 use Rattle.sheet.proofs.main.Tie as tie

@@ -1,4 +1,4 @@
--- The invariant: the card is steady, and at most 512 turns were read for each piece. The measure is the count of pieces left.
+-- The invariant: the card is steady, and at most 512 turns were read for each part. The measure is the count of parts left.
 use mathlib.Core.Path.{_≡_, sym, _∙_}
 use Prim.Native.Nat.{_+_, _*_, _≤_}
 use native.Mathlib.Omega.{arith}

@@ -1,15 +1,15 @@
--- The card stays steady, as turns keep it; the lines of a piece have room, as its records are at most 512.
+-- The card stays steady, as turns keep it; the lines of a part have room, as its records are at most 512.
 use Prim.Native.Nat.{_≤_}
 use native.Mathlib.Omega.{arith}
 use borrow.Author.Needs.{needs}
 use Rattle.tell.proofs.Turns.{turns-moved}
-use Rattle.sheet.proofs.Pieces.{piece-few, part-length}
+use Rattle.sheet.proofs.Parts.{part-few, part-length}
 use Rattle.sheet.proofs.play_some.Statement.{statement}
 use Rattle.sheet.proofs.play_some.Tie as tie
 
--- a piece has at most 512 records
+-- a part has at most 512 records
 few : (c : tie.After-records-in) → c .records-in .result ≤ 512
-few c = piece-few _ _ (c .records-in .ensures) (omega arith)
+few c = part-few _ _ (c .records-in .ensures) (omega arith)
 
 tell-turns-requires : tie.Need-tell-turns-requires
 tell-turns-requires c κs =

@@ -7,7 +7,7 @@ use lib.ListN.{length}
 use Rattle.text.proofs.Written.{moved}
 use Rattle.tell.specs.Log.{LogReady}
 use Rattle.tell.proofs.Logs.{log-short}
-use Rattle.sheet.proofs.Pieces.{part-length}
+use Rattle.sheet.proofs.Parts.{part-length}
 use Rattle.sheet.proofs.print_rack.Statement.{statement}
 use Rattle.sheet.proofs.print_rack.Tie as tie
 

@@ -3,7 +3,7 @@ use Prim.Native.Nat.{_*_, _≤_}
 use native.Mathlib.Omega.{arith}
 use borrow.Author.Needs.{needs}
 use Rattle.model.proofs.Sizes.{sizes, rows-most, records-most}
-use Rattle.sheet.proofs.Pieces.{part-length}
+use Rattle.sheet.proofs.Parts.{part-length}
 use Rattle.sheet.proofs.print_sheet.Statement.{statement}
 use Rattle.sheet.proofs.print_sheet.Tie as tie
 

@@ -4,7 +4,7 @@ use native.Mathlib.Omega.{arith}
 use borrow.Author.Needs.{needs}
 use Rattle.text.proofs.Written.{moved}
 use Rattle.text.proofs.Lines.{turns-most}
-use Rattle.sheet.proofs.Pieces.{part-length}
+use Rattle.sheet.proofs.Parts.{part-length}
 use Rattle.sheet.proofs.print_turns.Statement.{statement}
 use Rattle.sheet.proofs.print_turns.Tie as tie
 

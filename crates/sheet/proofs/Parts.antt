@@ -1,4 +1,4 @@
--- How many records a piece has at most.
+-- How many records a part has at most.
 use mathlib.Core.Path.{_≡_, sym}
 use mathlib.Core.List.{List}
 use Prim.Native.Nat.{ℕ, _≤_}
@@ -8,8 +8,8 @@ use lib.Seq.{length-take-le}
 use Rattle.model.specs.Night.{pieces}
 use Rattle.tell.proofs.Pieces.{pieces-count}
 
-pub piece-few : (count : ℕ) (bytes : List ℕ) → count ≡ length (pieces bytes) → length bytes ≤ 2048 → count ≤ 512
-piece-few count bytes e h = omega (arith, pieces-count bytes)
+pub part-few : (count : ℕ) (bytes : List ℕ) → count ≡ length (pieces bytes) → length bytes ≤ 2048 → count ≤ 512
+part-few count bytes e h = omega (arith, pieces-count bytes)
 
 -- a part from the start on has the length asked for
 pub part-length : (n : ℕ) (l : List ℕ) → n ≤ length l → n ≡ length (take n l)
