@@ -92,14 +92,10 @@ impl Call {
     }
 
     /// The calls that reply with 0 or a refusal's number.
-    const REFUSING: [Call; 6] = [
-        Call::Turn,
-        Call::Sound,
-        Call::LogEntry,
-        Call::Fresh,
-        Call::AddCue,
-        Call::CodeOf,
-    ];
+    fn refusing() -> impl Iterator<Item = Call> {
+        let tells = |call: &Call| matches!(call, Call::Agree | Call::Longer);
+        Call::ALL.into_iter().filter(move |call| !tells(call))
+    }
 
     /// The numbers that a call can reply with, which all have to come up.
     pub fn numbers(self) -> &'static [usize] {
@@ -238,13 +234,13 @@ impl Display for Tally {
             writeln!(out, "{:<28}{tables:>9}{sound:>12}", sort.name())?;
         }
         write!(out, "{:<8}", "number")?;
-        for call in Call::REFUSING {
+        for call in Call::refusing() {
             write!(out, "{:>10}", call.name())?;
         }
         writeln!(out)?;
         for number in 0..NUMBERS {
             write!(out, "{number:<8}")?;
-            for call in Call::REFUSING {
+            for call in Call::refusing() {
                 match self.replies[call as usize][number] {
                     0 if !call.numbers().contains(&number) => write!(out, "{:>10}", "")?,
                     count => write!(out, "{count:>10}")?,

@@ -5,7 +5,7 @@ use Prim.Native.Nat.{ℕ, _+_, _*_, _-_, _≤_, _<_}
 use native.Mathlib.Omega.{arith}
 use native.Mathlib.Nat.{add-mul}
 use lib.ListN.{length}
-use Rattle.laws.proofs.Index.{cell-below, product-le}
+use Rattle.laws.proofs.Index.{rows-below, cell-below, product-le}
 use Rattle.model.specs.declared.Size.{Size}
 use Rattle.model.specs.Size.{records, cellsLength}
 use Rattle.model.specs.Table.{cellIndex}
@@ -22,13 +22,6 @@ pub record Room (s : Size) (cells : List ℕ) (section round lane rack : ℕ) : 
   pub before : (round - 1) * s .lanes * s .racks + s .lanes * s .racks ≤ records s
   pub inside : lane * s .racks + rack < s .lanes * s .racks
   pub place : ((round - 1) * s .lanes + lane) * s .racks + rack < records s
-
--- n whole rows end where the next one starts
-rows-below : {i k : ℕ} (n : ℕ) → i < k → i * n + n ≤ k * n
-rows-below {i} {k} n h =
-    let p : (i + 1) * n ≤ k * n = product-le {a = i + 1} {b = n} {x = k} {y = n} (omega arith) (omega arith) in
-    let e = add-mul i 1 n in
-    omega arith
 
 pub room : {s : Size} {cells : List ℕ} {section round lane rack : ℕ} → Here s cells section round lane rack → Room s cells section round lane rack
 unfolding cellsLength

@@ -2,11 +2,10 @@
 use mathlib.Core.Path.{_≡_}
 use Prim.Native.Nat.{ℕ, _+_, _*_, _-_, _≤_, _<_}
 use native.Mathlib.Omega.{arith}
-use native.Mathlib.Nat.{div-lt-iff-lt-mul}
 use borrow.Author.Tests.{lt-ltb, le-ltb, eq-eqb, ne-eqb}
 use Rattle.laws.proofs.Cases.{either, eq-or-ne, lt-or-ge}
 use Rattle.model.proofs.Order.{lane-below}
-use Rattle.model.proofs.Place.{block-long, place-below}
+use Rattle.model.proofs.Place.{place-below, block-in-round}
 use Rattle.model.proofs.Ranges.{by-kind}
 use Rattle.laws.proofs.Index.{product-le}
 use Rattle.model.specs.declared.Size.{Size}
@@ -28,15 +27,8 @@ module _ (s : Size) where
   unfolding roundSteps
   round-steps-most h g = omega (arith, round-most h g)
 
-  pub block-below : (step : ℕ) → 1 ≤ s .lanes → step < roundSteps s → blockAt s step < s .lanes
-  unfolding blockAt roundSteps
-  block-below step h g =
-      let some = block-long s in
-      let b = product-le {a = 1} {b = 1} {x = s .lanes} {y = blockSteps s} h (omega arith) in
-      div-lt-iff-lt-mul {k = blockSteps s} {x = step - 2} {y = s .lanes} (omega arith) .1 (omega arith)
-
   pub lane-at-below : (first step : ℕ) → 1 ≤ s .lanes → first < s .lanes → step < roundSteps s → laneOf first (blockAt s step) < s .lanes
-  lane-at-below first step h g l = lane-below first (s .lanes) (blockAt s step) g (block-below step h l)
+  lane-at-below first step h g l = lane-below first (s .lanes) (blockAt s step) g (block-in-round s step h l)
 
 pub block-of-most : (first lane : ℕ) → blockOf first lane ≤ lane + 1
 unfolding blockOf

@@ -5,15 +5,19 @@ use native.Mathlib.Omega.{arith}
 use native.Mathlib.Nat.{mul-le-mul, suc-mul}
 use Rattle.laws.proofs.Cases.{either, lt-or-ge}
 
--- row i, column r of k rows of n
-pub cell-below : {i k r n : ℕ} → i < k → r < n → i * n + r < k * n
-cell-below {i} {k} {r} {n} h g =
+-- whole rows end where the next one starts
+pub rows-below : {i k : ℕ} (n : ℕ) → i < k → i * n + n ≤ k * n
+rows-below {i} {k} n h =
     let p : suc i * n ≤ k * n = mul-le-mul h (le-self n) in
     let e : suc i * n ≡ i * n + n = suc-mul i n in
     omega arith
   where
     le-self : (n : ℕ) → n ≤ n
     le-self n = omega arith
+
+-- row i, column r of k rows of n
+pub cell-below : {i k r n : ℕ} → i < k → r < n → i * n + r < k * n
+cell-below {i} {k} {r} {n} h g = let p = rows-below {i = i} {k = k} n h in omega arith
 
 pub product-le : {a b x y : ℕ} → a ≤ x → b ≤ y → a * b ≤ x * y
 product-le h g = mul-le-mul h g

@@ -4,16 +4,10 @@ use Prim.Native.Nat.{ℕ, suc, _+_, _*_, _-_, _/_, _%_, _≤_, _<_}
 use native.Mathlib.Omega.{arith}
 use native.Mathlib.Nat.{le-refl, mul-le-mul, suc-mul, div-add-mod', mod-lt, mul-add-div-right, div-eq-of-lt, mul-add-mod-self-right, mod-eq-of-lt}
 use Rattle.laws.proofs.Cases.{either, lt-or-ge}
+use Rattle.laws.proofs.Index.{rows-below}
 use Rattle.model.specs.declared.Size.{Size}
 use Rattle.model.specs.Size.{blockSteps, roundSteps}
 use Rattle.model.specs.Kind.{blockAt, placeAt}
-
--- the rows of a table up to row a lie below row b
-pub rows : (n a b : ℕ) → a < b → a * n + n ≤ b * n
-rows n a b h =
-    let p : suc a * n ≤ b * n = mul-le-mul h (le-refl n) in
-    let e : suc a * n ≡ a * n + n = suc-mul a n in
-    omega arith
 
 module _ (s : Size) where
   pub block-long : 2 ≤ blockSteps s
@@ -88,8 +82,8 @@ module _ (s : Size) where
           (λ (l : block + 1 < s .lanes).
           let e = at .counted in
           let p = at .below in
-          let a = rows (blockSteps s) block (block + 1) (omega arith) in
-          let c = rows (blockSteps s) (block + 1) (s .lanes) l in
+          let a = rows-below {i = block} {k = block + 1} (blockSteps s) (omega arith) in
+          let c = rows-below {i = block + 1} {k = s .lanes} (blockSteps s) l in
           absurd (omega arith))
           (λ (g : s .lanes ≤ block + 1). omega arith)
 
@@ -98,7 +92,7 @@ module _ (s : Size) where
       last-place =
           let e = at .counted in
           let p = at .below in
-          let a = rows (blockSteps s) block (s .lanes) there in
+          let a = rows-below {i = block} {k = s .lanes} (blockSteps s) there in
           let f : (block + 1) * blockSteps s ≡ s .lanes * blockSteps s = ap (λ (x : ℕ). x * blockSteps s) last-block in
           let g : suc block * blockSteps s ≡ block * blockSteps s + blockSteps s = suc-mul block (blockSteps s) in
           let i : (block + 1) * blockSteps s ≡ suc block * blockSteps s = ap (λ (x : ℕ). x * blockSteps s) one-more in
@@ -106,3 +100,14 @@ module _ (s : Size) where
         where
           one-more : block + 1 ≡ suc block
           one-more = omega arith
+
+  -- a step of a round is in one of its blocks, or before the first
+  pub block-in-round : (step : ℕ) → 1 ≤ s .lanes → step < roundSteps s → blockAt s step < s .lanes
+  unfolding blockAt
+  block-in-round step h g =
+      either (lt-or-ge step 2)
+      (λ (l : step < 2).
+      let b = block-long in
+      let z : (step - 2) / blockSteps s ≡ 0 = div-eq-of-lt (omega arith) in
+      omega arith)
+      (λ (m : 2 ≤ step). block-below step _ _ (stands step m) g)

@@ -6,7 +6,7 @@ use native.Mathlib.Omega.{arith}
 use lib.ListN.{length, take}
 use lib.Seq.{length-take-le}
 use Rattle.model.specs.Night.{pieces}
-use Rattle.tell.proofs.Pieces.{pieces-count}
+use Rattle.turns.proofs.Pieces.{pieces-count}
 
 pub part-few : (count : ℕ) (bytes : List ℕ) → count ≡ length (pieces bytes) → length bytes ≤ 2048 → count ≤ 512
 part-few count bytes e h = omega (arith, pieces-count bytes)

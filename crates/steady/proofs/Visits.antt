@@ -5,12 +5,13 @@ use Prim.Native.Nat.{ℕ, _+_, _*_, _-_, _≤_, _<_}
 use native.Mathlib.Omega.{arith}
 use native.Mathlib.Nat.{zero-mod}
 use Rattle.laws.proofs.Cases.{either, lt-or-ge}
+use Rattle.laws.proofs.Index.{rows-below}
 use Rattle.model.proofs.Order.{lane-of-block, block-of-lane}
 use Rattle.model.specs.declared.Size.{Size}
 use Rattle.model.specs.declared.Rack.{Rack}
 use Rattle.model.specs.Size.{blockSteps}
 use Rattle.model.specs.Kind.{blockAt, placeAt, laneOf, laneAt, blockOf, stepsIn, firstsRead, secondsRead}
-use Rattle.model.proofs.Place.{rows, Stands, stands}
+use Rattle.model.proofs.Place.{Stands, stands}
 
 module _ (s : Size) where
   -- nothing is taken or read before the first block
@@ -40,7 +41,7 @@ module _ (s : Size) where
     unfolding stepsIn
     all-taken h =
         let e = at .counted in
-        let a = rows (blockSteps s) (blockOf (r .first) lane) block h in
+        let a = rows-below {i = blockOf (r .first) lane} {k = block} (blockSteps s) h in
         omega arith
 
     some-taken : blockOf (r .first) lane ≡ block → stepsIn s r lane ≡ place
@@ -82,8 +83,8 @@ module _ (s : Size) where
         rw (same, on)
         (either (lt-or-ge (blockOf (r .first) lane) (blockAt s (r .step)))
         (λ (l : blockOf (r .first) lane < blockAt s (r .step)).
-        let a = rows (blockSteps s) (blockOf (r .first) lane) (blockAt s (r .step)) l in
+        let a = rows-below {i = blockOf (r .first) lane} {k = blockAt s (r .step)} (blockSteps s) l in
         omega arith)
         (λ (g : blockAt s (r .step) ≤ blockOf (r .first) lane).
-        let a = rows (blockSteps s) (blockAt s (r .step)) (blockOf (r .first) lane) (omega (arith, else-block r lane d)) in
+        let a = rows-below {i = blockAt s (r .step)} {k = blockOf (r .first) lane} (blockSteps s) (omega (arith, else-block r lane d)) in
         omega arith))

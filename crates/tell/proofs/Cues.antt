@@ -12,7 +12,8 @@ use Rattle.model.specs.Cues.{Listed, listsFit, badCue, listed, addCue}
 use Rattle.model.specs.Night.{pieceAt, pieces}
 use Rattle.model.specs.Sheet.{Loaded, loadCues}
 use Rattle.turns.specs.Walk.{placeBehind}
-use Rattle.tell.proofs.Pieces.{pieces-none, end-at, pieces-next}
+use Rattle.turns.proofs.Pieces.{pieces-none}
+use Rattle.turns.proofs.Ends.{end-at, pieces-next}
 
 -- a record added or refused leaves the length, and a refused one the lists
 pub record Kept (lists : List ℕ) (a : Listed) : Type 0 where

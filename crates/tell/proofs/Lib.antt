@@ -1,4 +1,3 @@
-pub mod Pieces
 pub mod Logs
 pub mod Turns
 pub mod Cues

@@ -20,7 +20,8 @@ use Rattle.text.proofs.Written.{behind, moved}
 use Rattle.text.proofs.Lines.{refused-most}
 use Rattle.turns.specs.Walk.{placeBehind}
 use Rattle.tell.specs.Turns.{Telling, tellTurns, replyText, TurnsReady}
-use Rattle.tell.proofs.Pieces.{pieces-none, pieces-next, fewer}
+use Rattle.turns.proofs.Pieces.{pieces-none}
+use Rattle.turns.proofs.Ends.{pieces-next, fewer}
 
 -- one turn played and told
 unfoldable pub tellTurn : Size → Card → List ℕ → ℕ → ℕ → ℕ → List ℕ → Telling

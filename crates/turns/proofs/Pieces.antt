@@ -1,12 +1,12 @@
 -- What stands at a place says which records `pieces` lists from there on.
 use mathlib.Core.Path.{_≡_, refl, _∙_}
 use mathlib.Core.List.{List, [], _∷_}
-use Prim.Native.Nat.{ℕ, _+_, _-_, _≤_, _<_}
+use Prim.Native.Nat.{ℕ, _+_, _-_, _/_, _≤_, _<_}
 use native.Mathlib.Omega.{arith}
 use native.Mathlib.Nat.{add-zero}
 use borrow.Author.Tests.{le-leb, lt-leb, lt-ltb, le-ltb}
-use lib.ListN.{length, getD, drop, length-drop, drop-of-length-le}
-use lib.Seq.{getD-drop, drop-drop}
+use lib.ListN.{length, getD, take, drop, length-drop, drop-of-length-le}
+use lib.Seq.{take-all, getD-drop, drop-drop}
 use Rattle.laws.proofs.Cases.{either, lt-or-ge}
 use Rattle.model.specs.declared.Turn.{Turn}
 use Rattle.model.specs.declared.Piece.{Piece}
@@ -14,14 +14,22 @@ use Rattle.model.specs.declared.Piece.the-variants.{Whole, Short, End}
 use Rattle.model.specs.Night.{pieceAt, pieces}
 use Rattle.turns.specs.Walk.{turnBytes}
 
--- the first piece of some bytes
-first-short : (l : List ℕ) → 0 < length l → length l < 4 → pieces l ≡ l ∷ []
+-- no bytes have no records
+pub pieces-none : (bytes : List ℕ) (at : ℕ) → length bytes ≤ at → pieces (drop at bytes) ≡ []
 unfolding pieces
-first-short [] h g = absurd (omega arith)
-first-short (a ∷ []) h g = refl
-first-short (a ∷ b ∷ []) h g = refl
-first-short (a ∷ b ∷ c ∷ []) h g = refl
-first-short (a ∷ b ∷ c ∷ d ∷ l) h g = absurd (omega arith)
+pieces-none bytes at h = rw (drop-of-length-le bytes h)
+
+-- the first record of some bytes
+pub first : (l : List ℕ) → 0 < length l → pieces l ≡ take 4 l ∷ pieces (drop 4 l)
+unfolding pieces
+first [] h = absurd (omega arith)
+first (a ∷ []) h = refl
+first (a ∷ b ∷ []) h = refl
+first (a ∷ b ∷ c ∷ []) h = refl
+first (a ∷ b ∷ c ∷ d ∷ l) h = refl
+
+first-short : (l : List ℕ) → 0 < length l → length l < 4 → pieces l ≡ l ∷ []
+first-short l h g = first l h ∙ rw (take-all 4 l (omega arith), pieces-none l 4 (omega arith))
 
 first-whole : (l : List ℕ) → 4 ≤ length l → pieces l ≡ (getD l 0 0 ∷ getD l 1 0 ∷ getD l 2 0 ∷ getD l 3 0 ∷ []) ∷ pieces (drop 4 l)
 unfolding pieces
@@ -55,8 +63,8 @@ Says bytes place End = EndFrom bytes place
 
 module _ (bytes : List ℕ) (place : ℕ) where
   at-end : length bytes ≤ place → Says bytes place (pieceAt bytes place)
-  unfolding pieceAt pieces
-  at-end h = rw (le-leb (length bytes) place h) (record { past = h; none = rw (drop-of-length-le bytes h) })
+  unfolding pieceAt
+  at-end h = rw (le-leb (length bytes) place h) (record { past = h; none = pieces-none bytes place h })
 
   at-short : place < length bytes → length bytes - place < 4 → Says bytes place (pieceAt bytes place)
   unfolding pieceAt
@@ -87,3 +95,12 @@ module _ (bytes : List ℕ) (place : ℕ) where
 
   pub end-from : pieceAt bytes place ≡ End → EndFrom bytes place
   end-from e = rw e at says
+
+-- how many records bytes have
+pub pieces-count : (bytes : List ℕ) → length (pieces bytes) ≡ (length bytes + 3) / 4
+unfolding pieces
+pieces-count [] = refl
+pieces-count (a ∷ []) = refl
+pieces-count (a ∷ b ∷ []) = refl
+pieces-count (a ∷ b ∷ c ∷ []) = refl
+pieces-count (a ∷ b ∷ c ∷ d ∷ l) = omega (arith, pieces-count l)

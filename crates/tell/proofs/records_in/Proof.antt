@@ -1,7 +1,7 @@
 -- A record for each four bytes begun.
 use mathlib.Core.Path.{sym}
 use borrow.Author.Needs.{needs}
-use Rattle.tell.proofs.Pieces.{pieces-count}
+use Rattle.turns.proofs.Pieces.{pieces-count}
 use Rattle.tell.proofs.records_in.Statement.{statement}
 use Rattle.tell.proofs.records_in.Tie as tie
 

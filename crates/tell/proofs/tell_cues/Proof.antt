@@ -3,7 +3,7 @@ use Prim.Native.Nat.{_-_}
 use native.Mathlib.Omega.{arith}
 use borrow.Author.Needs.{needs}
 use lib.ListN.{length}
-use Rattle.tell.proofs.Pieces.{EndAt, end-at}
+use Rattle.turns.proofs.Ends.{EndAt, end-at}
 use Rattle.tell.proofs.Cues.{Adding, adding-first, adding-same, adding-next, adding-bad, adding-last}
 use Rattle.tell.proofs.tell_cues.Statement.{statement}
 use Rattle.tell.proofs.tell_cues.Tie as tie

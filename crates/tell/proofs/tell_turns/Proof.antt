@@ -11,7 +11,7 @@ use Rattle.model.specs.Night.{pieces}
 use Rattle.model.proofs.Sizes.{Exact, fits-exact}
 use Rattle.play.specs.Playable.{Playable}
 use Rattle.play.proofs.Turned.{few, tested-rack, turned-rack}
-use Rattle.tell.proofs.Pieces.{EndAt, end-at, fewer}
+use Rattle.turns.proofs.Ends.{EndAt, end-at, fewer}
 use Rattle.tell.proofs.Turns.{Going, one-most, told-turn, going-first, going-next, going-last}
 use Rattle.tell.proofs.tell_turns.Statement.{statement}
 use Rattle.tell.proofs.tell_turns.Tie as tie

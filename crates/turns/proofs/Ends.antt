@@ -1,28 +1,15 @@
--- A walk over bytes by records of four, the last one perhaps short, passes the records that `pieces` lists.
-use mathlib.Core.Path.{_≡_, refl, ap, _∙_}
-use mathlib.Core.List.{List, [], _∷_}
-use Prim.Native.Nat.{ℕ, suc, _+_, _-_, _/_, _≤_, _<_}
+-- Where the record at a place ends, and which records are left from there on.
+use mathlib.Core.Path.{_≡_, ap, _∙_}
+use mathlib.Core.List.{List, _∷_}
+use Prim.Native.Nat.{ℕ, suc, _+_, _-_, _≤_, _<_}
 use native.Mathlib.Omega.{arith}
 use borrow.Author.Tests.{lt-leb, lt-ltb, le-ltb}
 use lib.ListN.{length, take, drop, length-drop, drop-of-length-le}
 use lib.Seq.{take-all, drop-drop}
 use Rattle.laws.proofs.Cases.{either, lt-or-ge}
 use Rattle.model.specs.Night.{pieceAt, pieces}
 use Rattle.turns.specs.Walk.{placeBehind}
-
--- no bytes have no records
-pub pieces-none : (bytes : List ℕ) (at : ℕ) → length bytes ≤ at → pieces (drop at bytes) ≡ []
-unfolding pieces
-pieces-none bytes at h = rw (drop-of-length-le bytes h)
-
--- the first record of some bytes
-first : (l : List ℕ) → 0 < length l → pieces l ≡ take 4 l ∷ pieces (drop 4 l)
-unfolding pieces
-first [] h = absurd (omega arith)
-first (a ∷ []) h = refl
-first (a ∷ b ∷ []) h = refl
-first (a ∷ b ∷ c ∷ []) h = refl
-first (a ∷ b ∷ c ∷ d ∷ l) h = refl
+use Rattle.turns.proofs.Pieces.{first}
 
 -- where a record ends
 pub record EndAt (length at end : ℕ) : Type 0 where
@@ -60,12 +47,3 @@ module _ (bytes : List ℕ) (at end : ℕ) (h : at < length bytes) (e : end ≡ 
   -- each record counts one
   pub fewer : length (pieces (drop at bytes)) ≡ suc (length (pieces (drop end bytes)))
   fewer = ap length pieces-next
-
--- how many records bytes have
-pub pieces-count : (bytes : List ℕ) → length (pieces bytes) ≡ (length bytes + 3) / 4
-unfolding pieces
-pieces-count [] = refl
-pieces-count (a ∷ []) = refl
-pieces-count (a ∷ b ∷ []) = refl
-pieces-count (a ∷ b ∷ c ∷ []) = refl
-pieces-count (a ∷ b ∷ c ∷ d ∷ l) = omega (arith, pieces-count l)
