@@ -13,7 +13,7 @@ use Rattle.night.specs.Machine.{from, takenFrom, cuesOf, entriesIn}
 use Rattle.night.specs.Demands.{Demand2, Demand3, Demands}
 use Rattle.night.specs.Rules.{laneBy, lanesBy, readBy, stepWith, refusalWith, turnWith, buildWith}
 use Rattle.night.specs.Builds.{refusesAll, doesNothing, emptyLogs, idle, idling, idlesLater, inventsTaken, inventsFinished, inventsLength, inventsEntry, hidesTaken, hidesFinished, hidesLength, hidesEntry, withoutPlace, lastHeld, withoutNews, risingOrder, heldAgain}
-use Rattle.night.specs.Rows.{turn, answer, begun, bothFirst}
+use Rattle.night.specs.Rows.{turn, answer, begun, bothFirst, P10}
 use Rattle.night.specs.Refuting.{alone, round, pair, committedAgain, olderValue, comeUpon, runBefore}
 
 -- "One that refuses each turn, or takes it and does nothing: shut out by demand 2, as the refusal table says exactly when."
@@ -95,11 +95,11 @@ no-hidesEntry d =
     let e : _≡_ {A = ℕ} 9 0 = ap entryNumber (d .entries-told (alone 1) refl round 0 0 0) in
     omega arith
 
--- "0#1 twice in P10's night"
+-- "0#1 twice in P10's night": R = 4, and with the turn in it that is refused with 7
 no-withoutPlace : Demand3 (buildWith withoutPlace) → ⊥
 unfolding rules from cuesOf laneBy lanesBy readBy stepWith refusalWith turnWith
 no-withoutPlace d =
-    let e : _≡_ {A = ℕ} 1 2 = d .numbers-run (pair 2) refl committedAgain 0 0 1 (lit< tt) (lit< tt) (lit< tt) in
+    let e : _≡_ {A = ℕ} 1 2 = d .numbers-run (P10 .size) refl committedAgain 0 0 1 (lit< tt) (lit< tt) (lit< tt) in
     omega arith
 
 -- it breaks no clause of demand 3, but rack 1 has missed 0#1 and then leaves 0#2 out too, though it commits it

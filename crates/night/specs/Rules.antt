@@ -120,7 +120,7 @@ module _ (rules : Rules) (s : Size) (rack : ℕ) where
         let end = settledBy in
         cond (isLast s r) end (record { tables = t; rack = readBy })
 
-    -- its refusals: a build that has a rule wrong does not find its own tables unsound
+    -- its refusals: a build that has a rule wrong does not find its own tables unsound; with the right rules 1, 2 and 8 never come
     unfoldable pub refusalWith : ℕ → ℕ → ℕ
     refusalWith m q =
         cond (finished s r) 4
