@@ -10,7 +10,7 @@ use Rattle.model.specs.Table.{Card, logLength}
 use Rattle.model.specs.Logs.{isThere}
 use Rattle.night.specs.Machine.{Machine, card, from, reached, takenFrom, taken, entryOf}
 use Rattle.night.specs.Demands.{Demands}
-use Rattle.night.proofs.Alike.{same-from, same-taken}
+use Rattle.night.proofs.Alike.{Alike, same-from, same-taken}
 use Rattle.night.proofs.Demand.Demands.{demands}
 
 pub record Same (M : Machine) (s : Size) (turns : List (List ℕ)) : Type 0 where
@@ -29,14 +29,17 @@ module _ (M : Machine) (d : Demands M) (s : Size) (e : sizeFits s ≡ true) (tur
   starts : M .fresh s ≡ card .fresh s
   starts = d .demand2 .starts-fresh s e
 
+  exact : Alike card M s (M .fresh s)
+  exact before turn = sym (d .demand2 .turns-exact s e before turn)
+
   reaches : reached M s turns ≡ reached card s turns
   reaches =
-      sym (same-from card M s (M .fresh s) (λ before turn. sym (d .demand2 .turns-exact s e before turn)) turns)
+      sym (same-from card M s (M .fresh s) exact turns)
       ∙ ap (λ (c : Card). from card s c turns) starts
 
   takes : (rack : ℕ) → taken M s rack turns ≡ taken card s rack turns
   takes rack =
-      sym (same-taken card M s (M .fresh s) (λ before turn. sym (d .demand2 .turns-exact s e before turn)) rack turns)
+      sym (same-taken card M s (M .fresh s) exact rack turns)
       ∙ ap (λ (c : Card). takenFrom card s c rack turns) starts
 
   pub same-machine : Same M s turns
