@@ -2,6 +2,7 @@ pub mod Tied
 pub mod Reached
 pub mod Begins
 pub mod Numbers
+pub mod Told
 pub mod DemandThree
 pub mod Admitted
 pub mod Marks

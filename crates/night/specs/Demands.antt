@@ -9,14 +9,15 @@ use Rattle.model.specs.declared.Size.{Size}
 use Rattle.model.specs.declared.Value.{Value}
 use Rattle.model.specs.declared.Cell.{Cell}
 use Rattle.model.specs.declared.Kind.the-variants.{SecondRead}
+use Rattle.model.specs.declared.Entry.the-variants.{Found, Refused}
 use Rattle.model.specs.Size.{sizeFits, blockSteps, roundSteps}
 use Rattle.model.specs.Record.{noCell, offered, isEmpty, isCommitted}
-use Rattle.model.specs.Table.{Card, offers, firstCells, readCell, undecided, decisionAt, rackAt, resultAt, newsAt}
+use Rattle.model.specs.Table.{Card, offers, firstCells, readCell, logLength, undecided, decisionAt, rackAt, resultAt, newsAt}
 use Rattle.model.specs.Kind.{kindOf, placeAt, laneAt, secondRead, stepsIn}
 use Rattle.model.specs.Step.{afterSecondRead}
 use Rattle.model.specs.Turn.{rackOf, turned}
 use Rattle.model.specs.Fresh.{freshCard}
-use Rattle.model.specs.Logs.{oneBegins}
+use Rattle.model.specs.Logs.{oneBegins, isThere}
 use Rattle.night.specs.Machine.{Machine, reached, taken, logBytes, entryOf, cuesOf, entriesIn}
 
 module _ (M : Machine) (s : Size) (turns : List (List ℕ)) where
@@ -105,6 +106,14 @@ module _ (M : Machine) where
     pub entries-held : (s : Size) → sizeFits s ≡ true → (turns : List (List ℕ)) (rack : ℕ) → rack < s .racks
         → let f = M .finished s (reached M s turns) rack in
         1 ≤ f → halfUp (f - 1) ≤ entriesIn M s (reached M s turns) rack (s .lanes)
+    -- "a log's length is the number of its records before the first zero one"
+    pub lengths-counted : (s : Size) → sizeFits s ≡ true → (turns : List (List ℕ)) (rack lane : ℕ) → rack < s .racks → lane < s .lanes
+        → M .length s (reached M s turns) rack lane ≡ logLength s (reached M s turns .tables .logs) rack lane
+    -- a log query is answered with the entry that stands there, and with 9 where "rack, lane or place not there"
+    pub entries-told : (s : Size) → sizeFits s ≡ true → (turns : List (List ℕ)) (rack lane place : ℕ)
+        → M .entry s (reached M s turns) rack lane place
+        ≡ cond (isThere s (reached M s turns .tables .logs) rack lane place)
+        (Found (entryOf M s (reached M s turns) rack lane place)) (Refused 9)
 
   pub record Demands : Type 0 where
     pub demand2 : Demand2

@@ -19,7 +19,7 @@ use Rattle.night.proofs.Demand.AdoptCommit.{adopt-commit}
 use Rattle.night.proofs.Demand.DemandThree.{demand3, log-short}
 use Rattle.night.proofs.Demand.Unrefused as unrefused
 
-tie : (s : Size) → sizeFits s ≡ true → Tie s
+pub tie : (s : Size) → sizeFits s ≡ true → Tie s
 tie s e =
     record {
       fresh-view = fresh-view s e;
