@@ -99,7 +99,8 @@ module _ (M : Machine) (s : Size) (turns : List (List ℕ)) where
         → firstCell rack round lane ≡ offerThen a
     -- "no lane has two values"
     pub one-value : (p q source source′ : ℕ) (a : Answers p round lane source) (b : Answers q round lane source′) → offerThen b ≡ offerThen a
-    -- "a lane has one source in a round"
+    -- "Decision (round, m) becomes q", and stays so: "a lane has one source in a round"
+    pub decided : (rack source : ℕ) → Answers rack round lane source → decisionAt s (reached M s turns .tables .decisions) round lane ≡ source
     pub one-source : (p q source source′ : ℕ) → Answers p round lane source → Answers q round lane source′ → source′ ≡ source
 
 -- "a reply names one lane, its value was offered at that lane in that round, and no lane has two values. The arbiter is stricter: a lane has

@@ -21,6 +21,7 @@ use Rattle.protocol.proofs.Invariant.{past-cases, past-before, past-now
 use Rattle.protocol.proofs.RackStep.{still-offered, rack-step, enter-step}
 
 module _ (E : Edition) (n k : ℕ) where
+  -- a rack before and after it settles
   module _ (s : History (E .Second)) (q : ℕ) where
     abbrev A : Rack
     A = s .racks q

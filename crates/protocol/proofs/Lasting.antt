@@ -72,11 +72,11 @@ module _ (E : Edition) (n k : ℕ) where
       let done : isDone E n k s₁ (t .rack) c ≡ true = eq-eqb _ n d in
       rw (lt-ltb (t .rack) n l, is, done, le-ltb (suc b) k last) (put-same (s .racks) (t .rack) (settled E s₁ (t .rack) (s .racks (t .rack))))
 
-  -- what lasts when a history grows, lasts
+  -- what lasts when a history grows lasts after any turns
   module _ (P : History (E .Second) → Type 0) (lasts : (s s′ : History (E .Second)) → Grows E n k s s′ → P s → P s′) where
-    end-lasts : (s : History (E .Second)) (q b : ℕ) → (s .racks q) .phase ≡ visiting b → P s → P (endBlock E n k s q b)
+    end-lasts : (s : History (E .Second)) (q b : ℕ) → P s → P (endBlock E n k s q b)
     unfolding endBlock
-    end-lasts s q b is h =
+    end-lasts s q b h =
         let same : (r c p : ℕ) → s .decided r c ≡ some p → s .decided r c ≡ some p = λ r c p e. e in
         either (bool (ltb (suc b) k))
         (λ t. rw t
@@ -92,7 +92,7 @@ module _ (E : Edition) (n k : ℕ) where
         let s₁ = move E n k s q c in
         let has : hasAnswer (s .racks q) ((s .racks q) .finished) ≡ true = rw is (past-now ((s .racks q) .finished)) in
         let moved = lasts s s₁ (move-grows E n k s inv q l c has) h in
-        either (bool (isDone E n k s₁ q c)) (λ t. rw t (end-lasts s₁ q b is moved)) (λ f. rw f moved)
+        either (bool (isDone E n k s₁ q c)) (λ t. rw t (end-lasts s₁ q b moved)) (λ f. rw f moved)
 
     act-lasts : (s : History (E .Second)) → Invariant E n k s → (t : Turn) → t .rack < n → (phase : Phase) → (s .racks (t .rack)) .phase ≡ phase → P s
         → P (act E n k s t phase)

@@ -7,7 +7,7 @@ use native.Mathlib.Omega.{arith}
 use Rattle.model.specs.declared.Size.{Size}
 use Rattle.model.specs.Size.{sizeFits}
 use Rattle.model.specs.Record.{isEmpty, offered}
-use Rattle.model.specs.Table.{offers, readCell}
+use Rattle.model.specs.Table.{offers, readCell, decisionAt}
 use Rattle.protocol.specs.FirstEdition.{first-edition, secondCell}
 use Rattle.protocol.proofs.Steps.{first-written}
 use Rattle.protocol.proofs.Wins.{wins-proposes}
@@ -41,12 +41,16 @@ module _ (s : Size) (tie : Tie s) (e : sizeFits s ≡ true) (turns : List (List 
       let same : w′ .r ≡ w .r = omega (arith, w .is-round, w′ .is-round) in
       sym (w′ .wins .first-lane) ∙ ap ((historyOf s turns .racks rack) .first) same ∙ w .wins .first-lane
 
+  decided : (rack source : ℕ) → Answers card s turns rack round lane source
+      → decisionAt s (reached card s turns .tables .decisions) round lane ≡ source
+  decided rack source a =
+      let w = won rack source a in
+      ap (λ (x : ℕ). decisionAt s (reached card s turns .tables .decisions) x lane) (w .is-round)
+      ∙ reached-tied s tie e turns .view .decisions-shown (w .r) lane (w .round-there) (w .lane-there)
+      ∙ ap sourceOf (w .wins .is-decided)
+
   one-source : (p q source source′ : ℕ) → Answers card s turns p round lane source → Answers card s turns q round lane source′ → source′ ≡ source
-  one-source p q source source′ a b =
-      let w = won p source a in
-      let w′ = won q source′ b in
-      let same : w′ .r ≡ w .r = omega (arith, w .is-round, w′ .is-round) in
-      ap sourceOf (sym (w′ .wins .is-decided) ∙ ap (λ (x : ℕ). historyOf s turns .decided x lane) same ∙ w .wins .is-decided)
+  one-source p q source source′ a b = sym (decided q source′ b) ∙ decided p source a
 
   proposed : (rack source : ℕ) (a : Answers card s turns rack round lane source) → 1 ≤ stepsTaken card s turns rack round lane
       → firstCell card s turns rack round lane ≡ offerThen card s turns a
@@ -73,5 +77,6 @@ module _ (s : Size) (tie : Tie s) (e : sizeFits s ≡ true) (turns : List (List 
             sym (stands q source′ b)
             ∙ ap (λ (x : ℕ). readCell s (reached card s turns .tables .cells) offers round lane x) (one-source p q source source′ a b)
             ∙ stands p source a;
+        decided = decided;
         one-source = one-source;
       }
