@@ -2,11 +2,11 @@
 use mathlib.Core.Path.{_≡_, sym, ap, _∙_, transport}
 use mathlib.Core.Bool.{true}
 use mathlib.Core.List.{List, _∷_}
-use Prim.Native.Nat.{ℕ, suc, _≤_, _<_}
+use Prim.Native.Nat.{ℕ, suc, _<_}
 use native.Mathlib.Omega.{arith}
 use borrow.Author.Tests.{ltb-true, eq-eqb}
 use lib.Dec.{ltb}
-use Rattle.laws.proofs.Cases.{either, and-true}
+use Rattle.laws.proofs.Cases.{and-true}
 use Rattle.model.specs.declared.Size.{Size}
 use Rattle.model.specs.declared.Value.{Value}
 use Rattle.model.specs.declared.Cell.{Cell}
@@ -30,7 +30,7 @@ use Rattle.night.specs.View.{turnOf, movesFrom}
 use Rattle.night.proofs.View.Standing.{is-answering}
 use Rattle.night.proofs.Demand.Tied.{Tied, Tie}
 use Rattle.night.proofs.Demand.Reached.{after-taken, historyOf, fresh-tied}
-use Rattle.night.proofs.Demand.Work.{shown, rack-sound}
+use Rattle.night.proofs.Demand.Work.{shown, round-left}
 use Rattle.night.proofs.Demand.Ended.{moment}
 
 -- a history in which a rack has won a lane of a round from a source, and the offer cell that named its value
@@ -72,10 +72,7 @@ module _ (s : Size) (tie : Tie s) (c : Card) (h : History Marked) (tied : Tied s
   fits = rw is at (accepted .1)
 
   current : fin < s .rounds
-  current =
-      either (rack-sound s c h tied q there .clock .resting)
-      (λ (g : a .round ≤ s .rounds). omega (arith, shown s c h tied q there .round))
-      (λ (e : a .step ≡ 0). absurd (omega arith))
+  current = round-left s c h tied q there (omega (arith, answers))
 
   pub won-later : (later : List (List ℕ))
       → Won s (after first-edition (s .racks) (s .lanes) h (movesFrom s c (t ∷ later))) (rackOf t) (rackAt (c .racks) (rackOf t) .round) (laneNamed t) (sourceNamed t)
