@@ -13,4 +13,6 @@ pub mod Unrefused
 pub mod Ended
 pub mod Found
 pub mod AdoptCommit
+pub mod Answered
+pub mod VectorConsensus
 pub mod Demands

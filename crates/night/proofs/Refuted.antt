@@ -10,11 +10,11 @@ use Rattle.model.specs.Logs.{entryNumber, entryCue, isThere, logEntry}
 use Rattle.model.specs.Table.{logLength}
 use Rattle.night.specs.Opened.{rules}
 use Rattle.night.specs.Machine.{from, takenFrom, cuesOf, entriesIn}
-use Rattle.night.specs.Demands.{Demand2, Demand3, Demands}
+use Rattle.night.specs.Demands.{Answers, Demand2, Demand3, Demands}
 use Rattle.night.specs.Rules.{laneBy, lanesBy, readBy, stepWith, refusalWith, turnWith, buildWith}
-use Rattle.night.specs.Builds.{refusesAll, doesNothing, emptyLogs, idle, idling, idlesLater, inventsTaken, inventsFinished, inventsLength, inventsEntry, hidesTaken, hidesFinished, hidesLength, hidesEntry, withoutPlace, lastHeld, withoutNews, risingOrder, heldAgain}
+use Rattle.night.specs.Builds.{refusesAll, doesNothing, emptyLogs, idle, idling, idlesLater, inventsTaken, inventsFinished, inventsLength, inventsEntry, hidesTaken, hidesFinished, hidesLength, hidesEntry, withoutPlace, lastHeld, withoutNews, risingOrder, heldAgain, takingEqual, secondSource}
 use Rattle.night.specs.Rows.{turn, answer, begun, bothFirst, P10}
-use Rattle.night.specs.Refuting.{alone, round, pair, committedAgain, olderValue, comeUpon, runBefore}
+use Rattle.night.specs.Refuting.{alone, round, pair, committedAgain, olderValue, comeUpon, runBefore, equalOffers}
 
 -- "One that refuses each turn, or takes it and does nothing: shut out by demand 2, as the refusal table says exactly when."
 no-refusesAll : Demand2 refusesAll → ⊥
@@ -102,7 +102,7 @@ no-withoutPlace d =
     let e : _≡_ {A = ℕ} 1 2 = d .numbers-run (P10 .size) refl committedAgain 0 0 1 (lit< tt) (lit< tt) (lit< tt) in
     omega arith
 
--- it breaks no clause of demand 3, but rack 1 has missed 0#1 and then leaves 0#2 out too, though it commits it
+-- rack 1 has missed 0#1 and then leaves 0#2 out too, though it commits it; that this build meets demand 3 is neither proved nor refuted
 no-lastHeld : Demand2 (buildWith lastHeld) → ⊥
 unfolding rules from laneBy lanesBy readBy stepWith refusalWith turnWith
 no-lastHeld d =
@@ -132,6 +132,48 @@ no-heldAgain d =
     let e : 2 ≤ 1 = d .entries-held (pair 4) refl runBefore 0 (lit< tt) (lit≤ tt) in
     omega arith
 
+-- lane 1 has one value in round 2, and two sources
+no-secondSource : Demand2 secondSource → ⊥
+unfolding rules from laneBy lanesBy readBy stepWith refusalWith turnWith takingEqual
+no-secondSource d =
+    let night : List (List ℕ) = equalOffers ++ (answer 0 1 0 ∷ answer 1 1 1 ∷ []) in
+    let one : Answers secondSource (pair 2) night 0 2 1 0 =
+    record {
+      at =
+          record {
+            before = equalOffers;
+            turn = answer 0 1 0;
+            later = answer 1 1 1 ∷ [];
+            split = refl;
+            is-taken = refl;
+            of-rack = refl;
+            in-round = refl;
+          };
+      answers = refl;
+      names-lane = refl;
+      names-source = refl;
+    }
+    in
+    let other : Answers secondSource (pair 2) night 1 2 1 1 =
+    record {
+      at =
+          record {
+            before = equalOffers ++ (answer 0 1 0 ∷ []);
+            turn = answer 1 1 1;
+            later = [];
+            split = refl;
+            is-taken = refl;
+            of-rack = refl;
+            in-round = refl;
+          };
+      answers = refl;
+      names-lane = refl;
+      names-source = refl;
+    }
+    in
+    let e : _≡_ {A = ℕ} 1 0 = d .vector-consensus (pair 2) refl night 2 1 .one-source 0 1 0 1 one other in
+    omega arith
+
 pub record NoneMeets : Type 0 where
   pub refusing : Demands refusesAll → ⊥
   pub doing-nothing : Demands doesNothing → ⊥
@@ -150,6 +192,7 @@ pub record NoneMeets : Type 0 where
   pub without-news : Demands (buildWith withoutNews) → ⊥
   pub rising-order : Demands (buildWith risingOrder) → ⊥
   pub held-again : Demands (buildWith heldAgain) → ⊥
+  pub second-source : Demands secondSource → ⊥
 
 pub none-meets : NoneMeets
 none-meets =
@@ -171,4 +214,5 @@ none-meets =
       without-news = λ d. no-withoutNews (d .demand3);
       rising-order = λ d. no-risingOrder (d .demand3);
       held-again = λ d. no-heldAgain (d .demand3);
+      second-source = λ d. no-secondSource (d .demand2);
     }

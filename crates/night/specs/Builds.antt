@@ -1,18 +1,18 @@
 -- Builds that do not do the job: the useless ones, and the errors that look right.
 use mathlib.Core.List.{List}
-use mathlib.Core.Bool.{true, false, cond, not}
+use mathlib.Core.Bool.{true, false, cond, not, _&&_}
 use Prim.Native.Nat.{ℕ, suc, _-_, _/_}
-use lib.Dec.{ltb}
+use lib.Dec.{eqb, ltb}
 use lib.ListN.{set}
 use Rattle.model.specs.declared.Size.{Size}
 use Rattle.model.specs.declared.Entry.the-variants.{Refused}
-use Rattle.model.specs.Record.{isCommitted}
-use Rattle.model.specs.Table.{Card, rackAt}
-use Rattle.model.specs.Step.{advanced, endingRound, isLast}
+use Rattle.model.specs.Record.{sameCell, isCommitted}
+use Rattle.model.specs.Table.{Card, offers, cellNow, decisionAt, rackAt}
+use Rattle.model.specs.Step.{advanced, endingRound, isLast, step}
 use Rattle.model.specs.Kind.{laneOf}
-use Rattle.model.specs.Turn.{Outcome, rackOf, turned}
+use Rattle.model.specs.Turn.{Outcome, rackOf, laneNamed, sourceNamed, turned}
 use Rattle.night.specs.Machine.{Machine, card, turning, telling}
-use Rattle.night.specs.Rules.{Rules, rules01}
+use Rattle.night.specs.Rules.{Rules, rules01, turnWith}
 
 -- "One that refuses each turn"
 abbrev pub refusesAll : Machine
@@ -93,3 +93,17 @@ risingOrder =
 abbrev pub heldAgain : Rules
 heldAgain =
     record { lane = laneOf; teller = rules01 .teller; compared = rules01 .compared; placed = true; again = λ c. not (isCommitted c) }
+
+-- "a second source is refused even if its value is equal": it takes one
+unfoldable pub takingEqual : Size → Card → List ℕ → Outcome
+takingEqual s c turn =
+    let r = rackAt (c .racks) (rackOf turn) in
+    let lane = laneNamed turn in
+    let decided = cellNow s (c .tables .cells) r offers lane (decisionAt s (c .tables .decisions) (r .round) lane) in
+    let named = cellNow s (c .tables .cells) r offers lane (sourceNamed turn) in
+    let work = turnWith rules01 s c turn in
+    let second : Outcome = record { number = 0; card = step s c (rackOf turn) lane (sourceNamed turn) } in
+    cond (eqb (work .number) 7 && sameCell named decided) second work
+
+abbrev pub secondSource : Machine
+secondSource = turning takingEqual

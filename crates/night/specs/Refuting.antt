@@ -49,3 +49,7 @@ runBefore =
     ++ (turns 0 4 ++ (answers 0 1 0 ++ (turns 0 13 ++ (answers 0 0 0 ++ (turns 0 9
     ++ (turns 1 6 ++ (answers 1 1 1 ++ (turns 1 13 ++ (answers 1 1 1 ++ (turns 1 1
     ++ (turns 0 4 ++ (answers 0 0 1 ++ turns 0 12)))))))))))))))))))
+
+-- rack 0 reads second cells of lane 1 only after rack 1 has written there, and so both hold 0#1: in round 2 both offer it
+abbrev pub equalOffers : List (List ℕ)
+equalOffers = begun 0 0 0 10 ++ (begun 1 1 1 12 ++ (turns 0 3 ++ turns 1 1))
