@@ -4,14 +4,15 @@
 use crate::night::Night;
 use crate::random::Random;
 use crate::records::RECORD;
-use crate::refusal::number;
+use crate::refusal::{number, Refusal};
 use crate::sizes::{Sizes, MOST_RACKS};
 use crate::sound::SoundNight;
 
 use super::answers::{answer_record, Preference};
 use super::schedule::{Schedule, Scheduler};
 use super::sleep::Sleep;
-use super::wrong::{is_at_answer, wrong_answer, wrong_record};
+use super::wrong::{is_at_answer, refused_with, wrong_answer, wrong_record};
+use super::Kind;
 
 /// What is decided about a night before its first turn.
 pub struct Plan {
@@ -24,12 +25,31 @@ pub struct Plan {
     /// The night stops before its last round is over.
     cut: bool,
     short_last_piece: bool,
+    /// A wrong record for each refusal, once the night allows it.
+    every_refusal: bool,
 }
 
 impl Plan {
-    pub fn new(random: &mut Random) -> Plan {
+    pub fn new(kind: Kind, schedule: Schedule, random: &mut Random) -> Plan {
+        let plan = Plan::drawn(schedule, random);
+        if kind != Kind::EveryRefusal {
+            return plan;
+        }
+        // The first rack answers before another has offered, the next finds its lane decided,
+        // and all of them finish: so every refusal has its moment.
         Plan {
-            schedule: random.pick(&Schedule::ALL).unwrap_or(Schedule::AnyOrder),
+            schedule: Schedule::Solo,
+            stalls: false,
+            switched_off: false,
+            cut: false,
+            every_refusal: true,
+            ..plan
+        }
+    }
+
+    fn drawn(schedule: Schedule, random: &mut Random) -> Plan {
+        Plan {
+            schedule,
             preference: random.pick(&Preference::ALL).unwrap_or(Preference::Any),
             stalls: random.one_in(3),
             switched_off: random.one_in(3),
@@ -38,6 +58,7 @@ impl Plan {
                 .flatten(),
             cut: random.one_in(3),
             short_last_piece: random.one_in(8),
+            every_refusal: false,
         }
     }
 
@@ -49,11 +70,22 @@ impl Plan {
             (self.wrong_one_in.is_some(), "wrong records"),
             (self.cut, "cut"),
             (self.short_last_piece, "short last piece"),
+            (self.every_refusal, "every refusal"),
         ]
         .into_iter()
         .filter_map(|(is_in, what)| is_in.then_some(what))
     }
 }
+
+/// The refusals that a turn can get in a night from fresh: 1, 9 and 10 are no turn's, 2 and 8 need
+/// a hand-made table.
+pub const OF_A_NIGHT: [Refusal; 5] = [
+    Refusal::Record,
+    Refusal::Finished,
+    Refusal::LaneOrSource,
+    Refusal::NoOffer,
+    Refusal::OtherSource,
+];
 
 /// How many turns got each number; number 0 is for those taken.
 pub type Replies = [u64; 11];
@@ -114,6 +146,9 @@ impl Player {
             let Some(rack) = scheduler.next_rack(self.night.night(), &awake, random) else {
                 break;
             };
+            if plan.every_refusal {
+                self.give_missing_refusals(rack, random);
+            }
             if plan.wrong_one_in.is_some() && is_at_answer(self.night.night(), rack) {
                 self.give_wrong_answer(rack, random);
             }
@@ -139,6 +174,18 @@ impl Player {
     fn give_wrong(&mut self, random: &mut Random) {
         let record = wrong_record(self.night.night(), random);
         self.give(&record);
+    }
+
+    /// A wrong record for each refusal that has not come yet and that the night allows now.
+    fn give_missing_refusals(&mut self, rack: usize, random: &mut Random) {
+        for refusal in OF_A_NIGHT {
+            if self.replies[usize::from(refusal.number())] > 0 {
+                continue;
+            }
+            if let Some(record) = refused_with(refusal, self.night.night(), rack, random) {
+                self.give(&record);
+            }
+        }
     }
 
     /// Bad answers come only at answer steps, so they are mixed in there.
