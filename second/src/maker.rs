@@ -51,11 +51,11 @@ pub enum Kind {
 impl Kind {
     pub fn of(seed: u64) -> Kind {
         let index = seed / SHARE;
-        match seed % SHARE {
-            0 => Kind::SizesInTurn(index),
-            3 if index % 2 == 0 => Kind::BadSize(index / 2),
-            3 => Kind::BadCues(index / 2),
-            4 => Kind::EveryRefusal,
+        match (seed % SHARE, index % 2) {
+            (0, _) => Kind::SizesInTurn(index),
+            (3, 0) => Kind::BadSize(index / 2),
+            (3, _) => Kind::BadCues(index / 2),
+            (4, _) => Kind::EveryRefusal,
             _ => Kind::Any,
         }
     }
