@@ -180,11 +180,11 @@ impl Tally {
 
     /// A line for each thing that the run had to reach and did not.
     pub fn missing(&self) -> Vec<String> {
-        let mut missing = Vec::new();
+        // A short run cannot be asked for all, and is told that it is short.
         if self.tables() < LEAST_TABLES {
-            missing.push(format!("fewer than {LEAST_TABLES} tables were tried"));
+            return vec![format!("fewer than {LEAST_TABLES} tables were tried")];
         }
-        missing.extend(self.sizes.missing());
+        let mut missing = self.sizes.missing();
         missing.extend(never(Sort::ALL.map(|sort| {
             let what = format!("a table of the sort: {}", sort.name());
             (what, self.tables[sort as usize])
@@ -342,5 +342,6 @@ mod tests {
     fn too_few_tables_are_told() {
         let told = gap(|tally| tally.tables = [1; Sort::ALL.len()]);
         assert_eq!(told, ["fewer than 200000 tables were tried"]);
+        assert_eq!(Tally::default().missing(), told);
     }
 }
