@@ -3,6 +3,7 @@
 
 use std::fmt::{self, Display};
 
+use crate::bench::nights::Counts;
 use crate::maker::{Schedule, OF_A_NIGHT};
 use crate::sizes::{Sizes, MOST_LANES, MOST_RACKS, MOST_ROUNDS};
 
@@ -117,7 +118,9 @@ impl NightsSeen {
                 if let Some(sizes) = sizes([racks, lanes, rounds]) {
                     self.sizes.add(sizes);
                 }
-                if let Some(schedule) = schedule {
+                // A schedule shows in turns that are taken.
+                let taken = Counts::on(sheet).map_or(0, |counts| counts.taken);
+                if let Some(schedule) = schedule.filter(|_| taken > 0) {
                     self.schedules[schedule as usize] += 1;
                 }
                 lines.for_each(|line| self.add_refused(line));

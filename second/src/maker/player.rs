@@ -24,6 +24,8 @@ pub struct Plan {
     wrong_one_in: Option<usize>,
     /// The night stops before its last round is over.
     cut: bool,
+    /// The night is cut and racks are switched off after so many turns or more.
+    least_turns: usize,
     short_last_piece: bool,
     /// A wrong record for each refusal, once the night allows it.
     every_refusal: bool,
@@ -32,18 +34,23 @@ pub struct Plan {
 impl Plan {
     pub fn new(kind: Kind, schedule: Schedule, random: &mut Random) -> Plan {
         let plan = Plan::drawn(schedule, random);
-        if kind != Kind::EveryRefusal {
-            return plan;
-        }
-        // The first rack answers before another has offered, the next finds its lane decided,
-        // and all of them finish: so every refusal has its moment.
-        Plan {
-            schedule: Schedule::Solo,
-            stalls: false,
-            switched_off: false,
-            cut: false,
-            every_refusal: true,
-            ..plan
+        match kind {
+            // A schedule shows from its first turn on.
+            Kind::SizesInTurn(_) => Plan {
+                least_turns: 1,
+                ..plan
+            },
+            // The first rack answers before another has offered, the next finds its lane decided,
+            // and all of them finish: so every refusal has its moment.
+            Kind::EveryRefusal => Plan {
+                schedule: Schedule::Solo,
+                stalls: false,
+                switched_off: false,
+                cut: false,
+                every_refusal: true,
+                ..plan
+            },
+            _ => plan,
         }
     }
 
@@ -57,6 +64,7 @@ impl Plan {
                 .pick(&[None, None, Some(40), Some(10), Some(3)])
                 .flatten(),
             cut: random.one_in(3),
+            least_turns: 0,
             short_last_piece: random.one_in(8),
             every_refusal: false,
         }
@@ -132,12 +140,13 @@ impl Player {
         let sizes = self.night.night().sizes();
         let all_turns = sizes.racks() * sizes.rounds() * sizes.steps_of_round();
         let most_turns = if plan.cut {
-            random.below(all_turns)
+            random.between(plan.least_turns, all_turns - 1)
         } else {
             2 * all_turns
         };
         let mut scheduler = Scheduler::new(plan.schedule);
-        let mut sleep = Sleep::new(plan.stalls, plan.switched_off, sizes, random);
+        let off_from = plan.switched_off.then_some(plan.least_turns);
+        let mut sleep = Sleep::new(plan.stalls, off_from, sizes, random);
         for now in 0..most_turns {
             let awake = sleep.awake(now, self.night.night(), random);
             if plan.wrong_one_in.is_some_and(|count| random.one_in(count)) {

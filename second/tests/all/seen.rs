@@ -11,8 +11,9 @@ fn whole() -> Vec<(String, Option<Schedule>)> {
     let mut sheets: Vec<_> = (0..64)
         .map(|index| {
             let (racks, lanes, rounds) = (1 + index % 8, 1 + index / 8 % 4, 1 + index);
-            let line = format!("racks {racks} lanes {lanes} rounds {rounds}\n");
-            (line, Some(Schedule::ALL[index % 5]))
+            let size = format!("racks {racks} lanes {lanes} rounds {rounds}");
+            let sheet = format!("{size}\nturns 1 taken 1 refused 0\n");
+            (sheet, Some(Schedule::ALL[index % 5]))
         })
         .collect();
     sheets.extend(OF_A_NIGHT.map(|refusal| {
@@ -99,14 +100,20 @@ fn racks_and_lanes_that_never_came_up_are_told_with_their_pairs() {
 }
 
 #[test]
-fn a_schedule_counts_where_turns_are_played() {
+fn a_schedule_counts_where_turns_are_taken() {
     let sheets: Vec<_> = whole()
         .into_iter()
         .map(|(sheet, schedule)| match schedule {
             Some(Schedule::Solo) => (sheet, None),
             other => (sheet, other),
         })
-        .chain([("bad size\n".to_string(), Some(Schedule::Solo))])
+        .chain(
+            [
+                "bad size\n",
+                "racks 1 lanes 1 rounds 1\nturns 1 taken 0 refused 1\n",
+            ]
+            .map(|sheet| (sheet.to_string(), Some(Schedule::Solo))),
+        )
         .collect();
     assert_eq!(missing_in(&sheets), ["never came up: schedule solo"]);
 }
