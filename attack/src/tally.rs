@@ -141,16 +141,17 @@ impl Tally {
         self.tables.iter().sum()
     }
 
-    pub fn table(&mut self, sort: Sort, tables: &Tables) {
+    pub fn table(&mut self, sort: Sort) {
         self.tables[sort as usize] += 1;
+    }
+
+    /// A table that was found sound, so its sizes are those of its lengths.
+    pub fn sound(&mut self, sort: Sort, tables: &Tables) {
+        self.sound[sort as usize] += 1;
         let [n, k, rounds] = wide(tables.sizes);
         if let Ok(sizes) = Sizes::new(n, k, rounds) {
             self.sizes.add(sizes);
         }
-    }
-
-    pub fn sound(&mut self, sort: Sort) {
-        self.sound[sort as usize] += 1;
     }
 
     pub fn reply(&mut self, call: Call, number: u8) {
@@ -245,7 +246,7 @@ impl Display for Tally {
         }
         writeln!(out, " all {}", self.taken.iter().sum::<u64>())?;
         writeln!(out, "records of 0 to 8 bytes: {:?}", self.record_lengths)?;
-        write!(out, "{}", self.sizes.table("tables"))
+        write!(out, "{}", self.sizes.table("sound tables"))
     }
 }
 
