@@ -188,7 +188,7 @@ impl Display for NightsSeen {
         let [(size, bad_size), (cues, bad_cues)] = self.bad_counts();
         writeln!(
             out,
-            "\nnights with no turns: {size} {bad_size}, {cues} {bad_cues}"
+            "\nnights of one line: {size} {bad_size}, {cues} {bad_cues}"
         )
     }
 }

@@ -6,6 +6,8 @@ use std::os::unix::fs::PermissionsExt;
 use std::path::{Path, PathBuf};
 use std::process::{Command, Stdio};
 
+use second::maker::CYCLE;
+
 /// A folder of a test's own, removed when the test is over.
 struct Scratch(PathBuf);
 
@@ -127,6 +129,7 @@ fn wrong_usage_gets_the_usage() {
         let (out, error, status) = run(&scratch.0, arguments, "");
         assert_eq!((out.as_str(), status), ("", Some(2)), "{arguments:?}");
         assert!(error.starts_with("usage: second sheet"), "{arguments:?}");
+        assert!(error.contains(&format!("from COUNT {CYCLE} on")));
         assert_eq!(error.lines().count(), 1, "{arguments:?}");
     }
 }
