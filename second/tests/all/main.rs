@@ -10,6 +10,7 @@ mod made_nights;
 mod nights;
 mod program;
 mod refusals;
+mod seen;
 mod sheet;
 mod soundness;
 mod text;
