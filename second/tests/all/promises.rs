@@ -1,5 +1,5 @@
-//! docs/PROMISES.md against the text of the proved crates: every public call has a row and a law, and every inner call that requires something has
-//! a row that names the crates of its callers.
+//! docs/PROMISES.md against the text of the proved crates: every public call has a row and a law, its promise names all that is lent for writing, and
+//! every inner call that requires something has a row that names the crates of its callers.
 
 use std::collections::{BTreeMap, BTreeSet};
 use std::fs;
@@ -44,11 +44,11 @@ fn files(name: &str) -> Vec<(String, String)> {
     modules.collect()
 }
 
-/// Every `pub fn` of a crate, and whether it has a `requires`. A method is named with its type.
-fn exported(name: &str) -> BTreeMap<String, bool> {
+/// Every `pub fn` of a crate, with its head: all that stands before its body. A method is named with its type.
+fn exported(name: &str) -> BTreeMap<String, String> {
     let mut found = BTreeMap::new();
     for (prefix, text) in files(name) {
-        let (mut owner, mut last) = (String::new(), None);
+        let (mut owner, mut open) = (String::new(), None);
         for line in text.lines() {
             let words: Vec<&str> = line.split_whitespace().collect();
             if words.first() == Some(&"impl") {
@@ -61,15 +61,22 @@ fn exported(name: &str) -> BTreeMap<String, bool> {
                 } else {
                     ""
                 };
-                last = (words[0] == "pub").then(|| format!("{prefix}{of}{function}"));
-                found.extend(last.clone().map(|call| (call, false)));
+                open = (words[0] == "pub").then(|| format!("{prefix}{of}{function}"));
             }
-            if words.first() == Some(&"requires") {
-                found.extend(last.clone().map(|call| (call, true)));
+            if let Some(call) = &open {
+                let head: &mut String = found.entry(call.clone()).or_default();
+                head.push_str(&format!("{line}\n"));
+            }
+            if line.ends_with('{') {
+                open = None;
             }
         }
     }
     found
+}
+
+fn asks(head: &str) -> bool {
+    head.contains("requires {")
 }
 
 /// The crates that call it, other than its own.
@@ -120,10 +127,10 @@ fn calls(heading: &str) -> Names {
 #[test]
 fn every_public_call_has_a_row_and_a_law() {
     let told: Names = &calls("The calls") | &calls("What a firmware links");
-    let public: BTreeMap<String, bool> = PUBLIC.iter().flat_map(|name| exported(name)).collect();
+    let public: BTreeMap<String, String> = PUBLIC.iter().flat_map(|name| exported(name)).collect();
     let free: Names = public
         .iter()
-        .filter(|(_, asks)| !**asks)
+        .filter(|(_, head)| !asks(head))
         .map(|(call, _)| call.clone())
         .collect();
     assert_eq!(told, free);
@@ -143,11 +150,24 @@ fn every_public_call_has_a_row_and_a_law() {
 }
 
 #[test]
+fn every_promise_names_what_is_lent_for_writing() {
+    for (call, head) in PUBLIC.iter().flat_map(|name| exported(name)) {
+        for (lent, _) in head.match_indices(": &mut ") {
+            let name = head[..lent].rsplit([' ', '(']).next().unwrap();
+            assert!(
+                head.contains(&format!("now ({name} .exit)")),
+                "{name} of {call}"
+            );
+        }
+    }
+}
+
+#[test]
 fn every_inner_call_that_requires_something_has_a_row() {
     let asking = folder("crates")
         .into_iter()
         .flat_map(|name| exported(&name))
-        .filter(|(_, asks)| *asks);
+        .filter(|(_, head)| asks(head));
     let told: Names = asking
         .map(|(call, _)| call)
         .filter(|call| {
