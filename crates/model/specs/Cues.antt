@@ -70,8 +70,19 @@ abbrev pub codeValue : Code → ℕ
 codeValue (Of code) = code
 codeValue (Refused number) = 0
 
+-- what a query for a code answers, in the document's numbers and values
+pub record Coded : Type 0 where
+  pub number : ℕ
+  pub code : ℕ
+
+-- "The code is looked up when a sheet is printed": 1 for sizes and length, 9 for a rack or lane not there
+unfoldable pub coded : ℕ → ℕ → List ℕ → ℕ → ℕ → ℕ → Coded
+coded n k lists rack lane number =
+    cond (not (listsFit n k lists)) (record { number = 1; code = 0 })
+    (cond (leb n rack || leb k lane) (record { number = 9; code = 0 })
+    (record { number = 0; code = codeIn k lists rack lane number }))
+
+-- the same as a case of the enum
 unfoldable pub codeOf : ℕ → ℕ → List ℕ → ℕ → ℕ → ℕ → Code
 codeOf n k lists rack lane number =
-    cond (not (listsFit n k lists)) (Refused 1)
-    (cond (leb n rack || leb k lane) (Refused 9)
-    (Of (codeIn k lists rack lane number)))
+    let c = coded n k lists rack lane number in cond (eqb (c .number) 0) (Of (c .code)) (Refused (c .number))

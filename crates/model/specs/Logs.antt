@@ -27,13 +27,27 @@ unfoldable pub isThere : Size → List ℕ → ℕ → ℕ → ℕ → Bool
 isThere s logs rack lane place =
     ltb rack (s .racks) && (ltb lane (s .lanes) && ltb place (logLength s logs rack lane))
 
--- the log query, which is lent the log table alone
+-- what a log query answers, in the document's numbers and values
+pub record Queried : Type 0 where
+  pub number : ℕ
+  pub cue : Cue
+
+-- "A refusal returns its number and zeros"
+abbrev refusal : ℕ → Queried
+refusal number = record { number = number; cue = noCue }
+
+-- the log query, which is lent the log table alone; "They are tested in this order."
+unfoldable pub queried : Size → List ℕ → ℕ → ℕ → ℕ → Queried
+queried s logs rack lane place =
+    cond (not (sizeFits s && eqb (length logs) (logsLength s))) (refusal 1)
+    (cond (not (soundLogs s logs)) (refusal 2)
+    (cond (not (isThere s logs rack lane place)) (refusal 9)
+    (record { number = 0; cue = entryAt logs (logStart s rack lane + place) })))
+
+-- the same as a case of the enum
 unfoldable pub logEntry : Size → List ℕ → ℕ → ℕ → ℕ → Entry
 logEntry s logs rack lane place =
-    cond (not (sizeFits s && eqb (length logs) (logsLength s))) (Refused 1)
-    (cond (not (soundLogs s logs)) (Refused 2)
-    (cond (not (isThere s logs rack lane place)) (Refused 9)
-    (Found (entryAt logs (logStart s rack lane + place)))))
+    let q = queried s logs rack lane place in cond (eqb (q .number) 0) (Found (q .cue)) (Refused (q .number))
 
 -- "one is a beginning of the other"
 abbrev pub oneBegins : List ℕ → List ℕ → Bool

@@ -9,6 +9,7 @@ mod logs;
 mod made_nights;
 mod nights;
 mod program;
+mod promises;
 mod refusals;
 mod seen;
 mod sheet;
