@@ -7,6 +7,7 @@ ghost use lib.Seq.{sets};
 ghost use Rattle.model.specs.Cues.{listsFit, listStart, codeAt, codeIn, codeNumber, codeValue, coded, codeOf, addCue};
 ghost use Rattle.cues.specs.Adding.{outOfRange, Placed, listCue};
 use model::Code;
+use model::logs;
 
 // "at most 64 each"
 const MOST: usize = 64;

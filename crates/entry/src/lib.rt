@@ -7,6 +7,7 @@ ghost use Rattle.model.specs.Size.{sizeFits, logsLength};
 ghost use Rattle.model.specs.Logs.{isThere, entryNumber, entryCue, queried, logEntry};
 use model::Entry;
 use model::Size;
+use model::logs;
 
 // "log query: rack, lane or place not there": whether all are.
 fn is_there(size: Size, logs: &[u8], rack: usize, lane: usize, place: usize) -> bool

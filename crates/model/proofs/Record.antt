@@ -109,3 +109,11 @@ load-other-entry l i k c n =
     let e0 : getD (sets l (2 * i) vs) (2 * k) 0 ≡ getD l (2 * k) 0 = sets-out vs l (2 * i) (2 * k) 0 (either (apart k i n) (λ x. inl (omega arith)) (λ y. inr (omega arith))) in
     let e1 : getD (sets l (2 * i) vs) (2 * k + 1) 0 ≡ getD l (2 * k + 1) 0 = sets-out vs l (2 * i) (2 * k + 1) 0 (either (apart k i n) (λ x. inl (omega arith)) (λ y. inr (omega arith))) in
     entry-bytes (sets l (2 * i) vs) k ∙ (λ t. record { issuer = e0 t; number = e1 t }) ∙ sym (entry-bytes l k)
+
+-- an entry stored in a part that starts at record f, said of the whole
+pub store-entry-part : (l : List ℕ) (f i k : ℕ) (c : Cue) → 2 * i + 2 ≤ k
+    → take (2 * f) l ++ (storeEntry (take k (drop (2 * f) l)) i c ++ drop k (drop (2 * f) l)) ≡ storeEntry l (f + i) c
+unfolding storeEntry
+store-entry-part l f i k c h =
+    let d : 2 * (f + i) ≡ 2 * f + 2 * i = omega arith in
+    rw d (sets-part (c .issuer ∷ c .number ∷ []) l (2 * f) k (2 * i) (omega arith))

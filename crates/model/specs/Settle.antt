@@ -1,18 +1,17 @@
 -- "The round's last step also settles every lane. L is the log length as it then stands".
 use mathlib.Core.List.{List}
 use mathlib.Core.Bool.{Bool, cond, not, _&&_}
-use Prim.Native.Nat.{ℕ, zero, suc, _+_}
+use Prim.Native.Nat.{ℕ, zero, suc, _+_, _/_, _≤_, _<_}
 use lib.Dec.{eqb, leb}
-use lib.ListN.{set}
+use lib.ListN.{length, set}
 use Rattle.laws.specs.Below.{below}
 use Rattle.model.specs.declared.Size.{Size}
 use Rattle.model.specs.declared.Cue.{Cue}
 use Rattle.model.specs.declared.Value.{Value}
 use Rattle.model.specs.declared.Cell.{Cell}
 use Rattle.model.specs.declared.Rack.{Rack}
-use Rattle.model.specs.declared.LogState.{LogState}
 use Rattle.model.specs.Record.{noCue, isCommitted, entryAt, storeEntry}
-use Rattle.model.specs.Table.{logStart, logLength, resultAt, newsAt}
+use Rattle.model.specs.Table.{logStart, lengthFrom, logLength, resultAt, newsAt}
 
 -- one log while it is settled: the table that it stands in, its first record there, and L
 pub record Log : Type 0 where
@@ -22,6 +21,10 @@ pub record Log : Type 0 where
 
 abbrev pub logOf : Size → List ℕ → ℕ → ℕ → Log
 logOf s logs rack lane = record { table = logs; start = logStart s rack lane; length = logLength s logs rack lane }
+
+-- a log that is lent by itself: all its bytes, and no others
+abbrev pub partLog : List ℕ → Log
+partLog bytes = record { table = bytes; start = 0; length = lengthFrom bytes 0 (length bytes / 2) }
 
 abbrev pub append : Log → Cue → Log
 append log c = record { table = storeEntry (log .table) (log .start + log .length) c; start = log .start; length = suc (log .length) }
@@ -47,7 +50,12 @@ unfoldable pub lastEntry : List ℕ → ℕ → ℕ → Cue
 lastEntry table start zero = noCue
 lastEntry table start (suc i) = entryAt table (start + i)
 
--- what a lane's log says to its rack
+-- what a lane's log says to its rack: its length, how many of its entries are the rack's own cues, and its last entry
+pub record LogState : Type 0 where
+  pub length : ℕ
+  pub own : ℕ
+  pub last : Cue
+
 abbrev pub stateOf : ℕ → Log → LogState
 stateOf rack log =
     record {
@@ -87,6 +95,18 @@ settledRack r lane rack state = holding r lane (nextHeld rack state (resultAt r 
 pub record Settled : Type 0 where
   pub logs : List ℕ
   pub rack : Rack
+
+-- a lane settled in the part of the log table that is its log
+unfoldable pub settlePart : List ℕ → Rack → ℕ → ℕ → Settled
+settlePart bytes r lane rack =
+    let log = settledLog (partLog bytes) (resultAt r lane) (newsAt r lane) in
+    record { logs = log .table; rack = settledRack r lane rack (stateOf rack log) }
+
+-- that part is lent, and has room for what rules 1 and 2 append
+pub record PartLent (bytes : List ℕ) (r : Rack) (lane : ℕ) : Type 0 where
+  pub lane-there : lane < 4
+  pub few : length bytes ≤ 128
+  pub room : settledLog (partLog bytes) (resultAt r lane) (newsAt r lane) .length ≤ length bytes / 2
 
 module _ (s : Size) (rack : ℕ) where
   -- the log that a lane's settling leaves

@@ -6,7 +6,7 @@ use borrow.Author.Needs.{needs}
 use borrow.Author.Tests.{lt-ltb, le-ltb}
 use lib.ListN.{length}
 use Rattle.model.specs.Cues.{listLength, codeIn}
-use Rattle.logs.proofs.Length.{length-most}
+use Rattle.model.proofs.Length.{length-most}
 use Rattle.cues.proofs.Lists.{code-there}
 use Rattle.cues.proofs.code_in.Statement.{statement}
 use Rattle.cues.proofs.code_in.Tie as tie

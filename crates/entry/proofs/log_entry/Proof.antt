@@ -9,8 +9,8 @@ use lib.ListN.{length}
 use Rattle.model.specs.Table.{logStart}
 use Rattle.model.specs.Logs.{isThere, queried, logEntry}
 use Rattle.model.specs.Sound.{soundLogs}
-use Rattle.logs.proofs.Start.{log-fits}
-use Rattle.logs.proofs.Length.{length-most}
+use Rattle.model.proofs.Start.{log-fits}
+use Rattle.model.proofs.Length.{length-most}
 use Rattle.sizes.specs.Lengths.{logsFit}
 use Rattle.entry.proofs.There.{there, fitting}
 use Rattle.entry.proofs.log_entry.Statement.{statement}

@@ -7,7 +7,7 @@ use native.Mathlib.Numerals.{add-one}
 use borrow.Author.Needs.{needs}
 use Rattle.laws.specs.Below.{below}
 use Rattle.model.specs.Settle.{tooLong}
-use Rattle.settle.specs.Append.{laneFits}
+use Rattle.settle.specs.Fits.{laneFits}
 use Rattle.settle.proofs.too_long.Statement.{statement}
 use Rattle.settle.proofs.too_long.Tie as tie
 
