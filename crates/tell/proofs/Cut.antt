@@ -3,7 +3,7 @@ use mathlib.Core.Path.{_≡_, refl, sym, ap, _∙_}
 use mathlib.Core.Logic.{_≢_}
 use mathlib.Core.List.{List, [], _∷_, _++_}
 use mathlib.Core.Bool.{true, false, cond, not, _&&_, _||_}
-use Prim.Native.Nat.{ℕ, zero, suc, _+_, _*_, _-_, _≤_, _<_}
+use Prim.Native.Nat.{ℕ, zero, suc, _+_, _*_, _≤_, _<_}
 use native.Mathlib.Omega.{arith}
 use borrow.Author.Tests.{leb-false, eqb-true}
 use lib.Dec.{eqb, leb}
@@ -11,17 +11,17 @@ use lib.ListN.{length, getD, take, drop, take-append-drop}
 use lib.Seq.{take-all, length-take-le}
 use Rattle.laws.proofs.Cases.{either, bool, eq-or-ne, lt-or-ge, and-true, true-and, or-false}
 use Rattle.model.specs.declared.Cue.{Cue}
-use Rattle.model.specs.Record.{noCue, sameCue, entryAt, storeEntry}
+use Rattle.model.specs.Record.{noCue, sameCue, storeEntry}
 use Rattle.model.specs.Size.{within}
-use Rattle.model.specs.Cues.{Listed, listMost, listsLength, listsFit, listStart, listLength, badCue, listed, addCue}
+use Rattle.model.specs.Cues.{listMost, listsLength, listsFit, listStart, listLength, badCue, listed, addCue}
 use Rattle.model.specs.Night.{pieces}
 use Rattle.model.specs.Sheet.{loadCues, sheet, sizeOf}
 use Rattle.model.proofs.Record.{load-store-entry, load-other-entry}
 use Rattle.logs.proofs.Length.{zeroAt, length-end}
 use Rattle.cues.specs.Adding.{outOfRange}
-use Rattle.cues.proofs.Lists.{bad-apart, few-lists, placed, fit-apart}
+use Rattle.cues.proofs.Lists.{bad-apart, few-lists, placed}
 use Rattle.turns.proofs.Pieces.{pieces-count}
-use Rattle.tell.specs.Cut.{cuesRead}
+use Rattle.tell.specs.Cut.{recordsRead, cuesRead}
 use Rattle.tell.proofs.Parts.{pieces-append}
 
 -- how many of a table's first records are not zero
@@ -140,7 +140,7 @@ module _ (n k : ℕ) where
 
   -- so do the first bytes that are read
   pub cut : (bytes lists : List ℕ) (i : ℕ) → loadCues n k lists i (pieces (take cuesRead bytes)) ≡ loadCues n k lists i (pieces bytes)
-  cut bytes lists i = cut-records 2050 bytes lists i (omega arith)
+  cut bytes lists i = cut-records recordsRead bytes lists i (omega arith)
 
 -- the sheet is that of the bytes read of cues.rec
 pub sheet-cut : (size cues turns : List ℕ) → sheet size (take cuesRead cues) turns ≡ sheet size cues turns
