@@ -1,9 +1,8 @@
 -- What a steady card gives to whoever tells its turns and its logs, and that a card filled afresh is steady.
-use mathlib.Core.Path.{_≡_, ap, _∙_}
+use mathlib.Core.Path.{_≡_}
 use mathlib.Core.Bool.{true}
 use Prim.Native.Nat.{ℕ, _≤_, _<_}
 use native.Mathlib.Omega.{arith}
-use Rattle.laws.proofs.Cases.{either, bool}
 use Rattle.model.specs.declared.Size.{Size}
 use Rattle.model.specs.Size.{sizeFits}
 use Rattle.model.specs.Table.{Tables, Card, rackAt}
@@ -17,14 +16,12 @@ use Rattle.steady.proofs.Fresh.{fresh-fits, fresh-sound, fresh-shape}
 use Rattle.steady.proofs.Turn.{Steady}
 
 module _ (s : Size) where
-  -- a call that filled the tables left a fresh card
-  pub filled-steady : (t : Tables) (o : Outcome) → o ≡ filled s t → o .number ≡ 0 → Steady s (o .card)
+  -- the call that fills tables which fit leaves a fresh card
+  pub filled-steady : (t : Tables) (o : Outcome) → o ≡ filled s t → fits s t ≡ true → Steady s (o .card)
   unfolding filled freshCard
-  filled-steady t o e z =
-      either (bool (fits s t))
-      (λ f. let fit = fits-size s t f in
-      rw (e, f) (record { shape = fresh-shape s; fit = fresh-fits s fit; ok = fresh-sound s fit }))
-      (λ f. let n : o .number ≡ 1 = ap (λ (x : Outcome). x .number) e ∙ rw f in absurd (omega arith))
+  filled-steady t o e f =
+      let fit = fits-size s t f in
+      rw (e, f) (record { shape = fresh-shape s; fit = fresh-fits s fit; ok = fresh-sound s fit })
 
   module _ (card : Card) (h : Steady s card) where
     pub steady-size : sizeFits s ≡ true
