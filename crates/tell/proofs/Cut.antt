@@ -17,7 +17,7 @@ use Rattle.model.specs.Cues.{listMost, listsLength, listsFit, listStart, listLe
 use Rattle.model.specs.Night.{pieces}
 use Rattle.model.specs.Sheet.{loadCues, sheet, sizeOf}
 use Rattle.model.proofs.Record.{load-store-entry, load-other-entry}
-use Rattle.logs.proofs.Length.{zeroAt, length-end}
+use Rattle.model.proofs.Length.{zeroAt, length-end}
 use Rattle.cues.specs.Adding.{outOfRange}
 use Rattle.cues.proofs.Lists.{bad-apart, few-lists, placed}
 use Rattle.turns.proofs.Pieces.{pieces-count}
