@@ -6,7 +6,7 @@ use native.Mathlib.Omega.{arith}
 use lib.Dec.{lit<, lit≤}
 use Rattle.model.specs.declared.Entry.{Entry}
 use Rattle.model.specs.Turn.{Outcome}
-use Rattle.model.specs.Logs.{entryNumber, entryCue, isThere, logEntry}
+use Rattle.model.specs.Logs.{entryNumber, entryCue, isThere, queried, logEntry}
 use Rattle.model.specs.Table.{logLength}
 use Rattle.night.specs.Opened.{rules}
 use Rattle.night.specs.Machine.{from, takenFrom, cuesOf, entriesIn}
@@ -65,7 +65,7 @@ no-inventsLength d =
 
 -- what a log query says is in the list too: at place 1 stands 0#2
 no-inventsEntry : Demand3 inventsEntry → ⊥
-unfolding rules from logEntry isThere
+unfolding rules from queried logEntry isThere
 no-inventsEntry d =
     let e : _≡_ {A = ℕ} 1 2 = ap (λ (x : Entry). entryCue x .number) (d .entries-told (alone 2) refl (round ++ round) 0 0 1) in
     omega arith

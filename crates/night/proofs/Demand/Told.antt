@@ -10,7 +10,7 @@ use Rattle.model.specs.declared.Entry.the-variants.{Found, Refused}
 use Rattle.model.specs.Size.{logsLength}
 use Rattle.model.specs.Record.{entryAt}
 use Rattle.model.specs.Table.{Card, logStart}
-use Rattle.model.specs.Logs.{isThere, logEntry}
+use Rattle.model.specs.Logs.{isThere, queried, logEntry}
 use Rattle.model.proofs.Sizes.{sizes, fits-size, fits-exact}
 use Rattle.steady.proofs.Tested.{card-facts}
 use Rattle.steady.proofs.Turn.{Steady}
@@ -18,7 +18,7 @@ use Rattle.steady.proofs.Turn.{Steady}
 pub entry-told : (s : Size) (c : Card) → Steady s c → (rack lane place : ℕ)
     → logEntry s (c .tables .logs) rack lane place
     ≡ cond (isThere s (c .tables .logs) rack lane place) (Found (entryAt (c .tables .logs) (logStart s rack lane + place))) (Refused 9)
-unfolding logEntry
+unfolding queried logEntry
 entry-told s c h rack lane place =
     let size = fits-size s (c .tables) (h .fit) in
     let exact = eq-eqb (length (c .tables .logs)) (logsLength s) (fits-exact s (c .tables) (h .fit) .logs) in
