@@ -1,5 +1,5 @@
 /* Plays document 01's sheet example, one rack, one lane, one round, and prints its log as the sheet does; then tries a seventh turn, tests
-   the tables, and compares the log with two that other panels show. So each call of night.h is made once. */
+   the tables, and compares the log with two that other panels show. So each call of night.h is made. */
 #include <stdio.h>
 #include <stdlib.h>
 

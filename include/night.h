@@ -9,7 +9,7 @@
  *     decisions  R * k bytes
  *     lists      128 * k * n bytes, the cue lists; all zeros at first
  *
- * Every call is defined for every input, and returns. A caller owes one thing: each pointer is valid for the length behind it, and a
+ * Every call is defined for every input, and returns. All that a caller owes: each pointer is valid for the length behind it, and a
  * buffer lent for writing overlaps no other. A number that is not 0 is a refusal, which changes nothing in what was lent:
  *
  *     1   n, k or R outside its range, or a lent length not exact
