@@ -65,9 +65,6 @@ range s step =
     (λ h f. record { later = h; from = f; to = omega arith })
 
 module _ (s : Size) (step : ℕ) where
-  pub offer-step : kindOf s step ≡ Offer → step ≡ 0
-  offer-step e = rw e at (range s step)
-
   pub answer-step : kindOf s step ≡ Answer → step ≡ 1
   answer-step e = rw e at (range s step)
 

@@ -66,10 +66,3 @@ decimal-most n h = digits-most 19 n (omega arith)
 pub front-most : (n : ℕ) → n < 2 ^ 64 → length (decimal (n / 100)) ≤ 18
 unfolding tenTo
 front-most n h = digits-most 17 (n / 100) (omega arith)
-
--- a number has at least one digit
-pub decimal-least : (n : ℕ) → 1 ≤ length (decimal n)
-decimal-least n =
-    either (lt-or-ge n 10)
-    (λ (l : n < 10). rw (decimal-less n l) (omega arith))
-    (λ (l : 10 ≤ n). rw (decimal-more n l, length-append) (omega arith))
