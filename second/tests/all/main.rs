@@ -3,11 +3,13 @@
 mod bench;
 mod block;
 mod check_turns;
+mod demands;
 mod driver;
 mod hand_made;
 mod logs;
 mod made_nights;
 mod nights;
+mod pages;
 mod program;
 mod promises;
 mod refusals;
