@@ -1,4 +1,4 @@
-//! `./wake` in a copy of its own, with a program in the place of `rt`: what it prints, tells and ends with.
+//! `./wake`, linked into a folder of its own, with a program in the place of `rt`: what it prints, tells and ends with.
 
 use std::env;
 use std::fs;
@@ -26,12 +26,11 @@ const SHEET: &str = "#!/bin/sh\ncat size.rec\n";
 
 const USAGE: &str = "usage: ./wake FOLDER (a night's folder, as nights/three-racks)\n";
 
-/// A copy of the script with two nights, its crates, and what stands in for `rt` and `sheet`.
-fn copy(name: &str, rt: &str, sheet: &str) -> Scratch {
+/// A folder with the script, two nights, its crates, and what stands in for `rt` and `sheet`.
+fn card(name: &str, rt: &str, sheet: &str) -> Scratch {
     let scratch = Scratch::new(name);
     let script = concat!(env!("CARGO_MANIFEST_DIR"), "/../wake");
-    let script = fs::read_to_string(script).expect("the script");
-    scratch.write_program("wake", &script);
+    symlink(script, scratch.0.join("wake")).expect("a link");
     scratch.write("crates.txt", CRATES.as_bytes());
     scratch.write("nights/one/README.md", b"A night.\nMore of it.\n");
     scratch.write("nights/one/size.rec", b"one \xff\x00");
@@ -69,7 +68,7 @@ fn end(command: &mut Command) -> (Vec<u8>, String, Option<i32>) {
 
 #[test]
 fn without_a_folder_it_lists_the_nights() {
-    let scratch = copy("wake-list", RT, SHEET);
+    let scratch = card("wake-list", RT, SHEET);
     let (out, told, status) = end(&mut wake(&scratch, &[]));
     let list = format!("nights/one: A night.\nnights/two: \n{USAGE}");
     assert_eq!(
@@ -81,7 +80,7 @@ fn without_a_folder_it_lists_the_nights() {
 
 #[test]
 fn wrong_usage_is_one_line_and_status_2() {
-    let scratch = copy("wake-usage", RT, SHEET);
+    let scratch = card("wake-usage", RT, SHEET);
     let none = end(&mut wake(&scratch, &["none"]));
     let told = format!("none is not a folder; {USAGE}");
     assert_eq!(none, (Vec::new(), told, Some(2)));
@@ -92,7 +91,7 @@ fn wrong_usage_is_one_line_and_status_2() {
 
 #[test]
 fn it_proves_builds_and_prints_the_sheet() {
-    let scratch = copy("wake-sheet", RT, SHEET);
+    let scratch = card("wake-sheet", RT, SHEET);
     let first = end(&mut wake(&scratch, &["one"]));
     let proving = "proving 1 of 4: laws\nproving 3 of 4: model\nproving 4 of 4: sheet\n";
     let told = format!("proving and building the card first: some minutes\n{proving}");
@@ -109,7 +108,7 @@ fn it_proves_builds_and_prints_the_sheet() {
 
 #[test]
 fn a_card_that_is_not_proved_is_told() {
-    let scratch = copy(
+    let scratch = card(
         "wake-unproved",
         "#!/bin/sh\necho no proof >&2\nexit 7\n",
         SHEET,
@@ -125,7 +124,7 @@ fn a_card_that_is_not_proved_is_told() {
 
 #[test]
 fn without_the_toolchain_it_says_so() {
-    let scratch = copy("wake-no-rt", RT, SHEET);
+    let scratch = card("wake-no-rt", RT, SHEET);
     let tools = scratch.0.join("tools");
     fs::create_dir(&tools).expect("a folder");
     for tool in ["bash", "dirname"] {
@@ -159,7 +158,7 @@ fn a_sheet_that_fails_is_told_with_status_1() {
     ];
     for (index, (sheet, expected)) in failing.into_iter().enumerate() {
         let sheet = format!("#!/bin/sh\n{sheet}\n");
-        let scratch = copy(&format!("wake-failing-{index}"), RT, &sheet);
+        let scratch = card(&format!("wake-failing-{index}"), RT, &sheet);
         let (out, told, status) = end(&mut wake(&scratch, &["two"]));
         assert_eq!((out, status), (b"two".to_vec(), Some(1)), "{sheet}");
         let told = told.split("sheet\n").nth(1);
