@@ -3,18 +3,19 @@
 
 use std::io::{self, Write};
 use std::path::{Path, PathBuf};
-use std::process::Command;
+use std::process::{Command, Output};
 
 use crate::compare::{first_difference, folders_below};
 use crate::files::with_path;
-use crate::maker::{make, seeds, Schedule, CYCLE};
+use crate::maker::{make, seeds, CYCLE};
 use crate::scratch::Scratch;
 use crate::seen::NightsSeen;
 use crate::sheet::sheet_of_folder;
 
 /// Runs a program on every night below a folder, then on nights made from `count` seeds, and
 /// compares what it prints with the sheet; tells whether there was a night and none differed.
-/// So many made nights as a cycle has must have had all that a night can have.
+/// So many made nights as a cycle has must have had all that a night can have; the kept ones have
+/// no say in that.
 pub fn hold(
     program: &Path,
     nights: &Path,
@@ -32,17 +33,17 @@ pub fn hold(
     };
     let (folders, seeds) = (folders_below(nights)?, seeds(seed, count)?);
     for folder in folders {
-        held.night(&folder, &folder.display().to_string(), None, out)?;
+        held.night(&folder, &folder.display().to_string(), out)?;
     }
     let scratch = Scratch::new()?;
     for seed in seeds {
         let night = make(seed);
         night.files.write(scratch.folder(), night.empty)?;
-        let schedule = Some(night.summary.schedule);
-        held.night(scratch.folder(), &format!("seed {seed}"), schedule, out)?;
+        let sheet = held.night(scratch.folder(), &format!("seed {seed}"), out)?;
+        held.seen.add(&sheet, night.summary.schedule);
     }
     writeln!(out, "seeds from {seed}, {count} of them")?;
-    held.end(count >= CYCLE, out)
+    held.end(count, out)
 }
 
 /// A run under way.
@@ -54,42 +55,40 @@ struct Held {
 }
 
 impl Held {
-    /// One night, told by its name where it differs.
-    fn night(
-        &mut self,
-        folder: &Path,
-        name: &str,
-        schedule: Option<Schedule>,
-        out: &mut impl Write,
-    ) -> io::Result<()> {
+    /// One night, told by its name where the program fails on it; hands back its sheet.
+    fn night(&mut self, folder: &Path, name: &str, out: &mut impl Write) -> io::Result<Vec<u8>> {
         let mut expected = Vec::new();
         sheet_of_folder(folder, &mut expected)?;
-        self.seen.add(&expected, schedule);
         let got = Command::new(&self.program)
             .current_dir(folder)
             .output()
             .map_err(|error| with_path(&self.program, error))?;
-        match first_difference(&expected, &got.stdout) {
-            None => self.passed += 1,
-            Some((line, expected, got)) => {
-                self.failed += 1;
-                writeln!(
-                    out,
-                    "{name}: sheet line {line}: expected {expected}, got {got}"
-                )?;
-            }
+        let failures = failures(&expected, &got);
+        match failures.as_slice() {
+            [] => self.passed += 1,
+            _ => self.failed += 1,
         }
-        Ok(())
+        for failure in failures {
+            writeln!(out, "{name}: {failure}")?;
+        }
+        Ok(expected)
     }
 
-    /// What came up, what never did if all had to, and the sum.
-    fn end(&mut self, had_to_see_all: bool, out: &mut impl Write) -> io::Result<bool> {
-        write!(out, "{}", self.seen)?;
-        if had_to_see_all {
+    /// What came up in so many made nights, what never did if all had to, and the sum.
+    fn end(&mut self, made: u64, out: &mut impl Write) -> io::Result<bool> {
+        if made > 0 {
+            write!(out, "{}", self.seen)?;
+        }
+        if made >= CYCLE {
             for line in self.seen.missing() {
                 self.failed += 1;
                 writeln!(out, "{line}")?;
             }
+        } else if made > 0 {
+            writeln!(
+                out,
+                "fewer than {CYCLE} made nights: what never came up is not asked for"
+            )?;
         }
         let (passed, failed) = (self.passed, self.failed);
         writeln!(out, "{passed} passed, {failed} failed")?;
@@ -97,12 +96,28 @@ impl Held {
     }
 }
 
+/// All that is wrong with a run of the program: another sheet, a status, a word of error.
+fn failures(expected: &[u8], got: &Output) -> Vec<String> {
+    let mut failures = Vec::new();
+    if let Some((line, expected, got)) = first_difference(expected, &got.stdout) {
+        failures.push(format!("sheet line {line}: expected {expected}, got {got}"));
+    }
+    if !got.status.success() {
+        failures.push(format!("the program ended with {}", got.status));
+    }
+    if !got.stderr.is_empty() {
+        let told = String::from_utf8_lossy(&got.stderr);
+        failures.push(format!("told on standard error: {told:?}"));
+    }
+    failures
+}
+
 #[cfg(test)]
 mod tests {
     use super::*;
 
-    /// The end of a run in which one night passed and nothing that counts came up.
-    fn end(had_to_see_all: bool) -> (bool, String) {
+    /// The end of a run in which one night passed and nothing that counts came up in so many made.
+    fn end(made: u64) -> (bool, String) {
         let mut held = Held {
             program: PathBuf::new(),
             seen: NightsSeen::default(),
@@ -110,24 +125,25 @@ mod tests {
             failed: 0,
         };
         let mut out = Vec::new();
-        let passed = held
-            .end(had_to_see_all, &mut out)
-            .expect("bytes to write to");
+        let passed = held.end(made, &mut out).expect("bytes to write to");
         (passed, String::from_utf8(out).expect("text"))
     }
 
     #[test]
     fn what_never_came_up_is_a_failure_in_a_whole_cycle() {
-        let (passed, told) = end(true);
+        let (passed, told) = end(CYCLE);
         assert!(!passed);
         assert!(told.contains("\nnever came up: R = 37\n"), "{told}");
         assert!(told.ends_with("\n1 passed, 120 failed\n"), "{told}");
     }
 
     #[test]
-    fn fewer_nights_need_not_have_all() {
-        let (passed, told) = end(false);
+    fn fewer_nights_need_not_have_all_and_say_so() {
+        let (passed, told) = end(CYCLE - 1);
         assert!(passed);
-        assert!(told.ends_with("\n1 passed, 0 failed\n"), "{told}");
+        let last = "\nfewer than 512 made nights: what never came up is not asked for\n\
+                    1 passed, 0 failed\n";
+        assert!(told.ends_with(last), "{told}");
+        assert_eq!(end(0), (true, "1 passed, 0 failed\n".to_string()));
     }
 }

@@ -95,7 +95,7 @@ impl Display for SizesTable<'_> {
     }
 }
 
-/// What came up in nights, as their sheets tell it.
+/// What came up in made nights, as their sheets tell it.
 #[derive(Clone, Debug, Default)]
 pub struct NightsSeen {
     sizes: SizesSeen,
@@ -106,8 +106,8 @@ pub struct NightsSeen {
 }
 
 impl NightsSeen {
-    /// A night by its sheet, with its schedule where it is a made one.
-    pub fn add(&mut self, sheet: &[u8], schedule: Option<Schedule>) {
+    /// A night by its sheet and its schedule.
+    pub fn add(&mut self, sheet: &[u8], schedule: Schedule) {
         let text = String::from_utf8_lossy(sheet);
         let mut lines = text.lines();
         let first: Vec<&str> = lines.next().unwrap_or_default().split(' ').collect();
@@ -115,12 +115,10 @@ impl NightsSeen {
             ["bad", "size"] => self.bad_size += 1,
             ["bad", "cues", _] => self.bad_cues += 1,
             ["racks", racks, "lanes", lanes, "rounds", rounds] => {
-                if let Some(sizes) = sizes([racks, lanes, rounds]) {
-                    self.sizes.add(sizes);
-                }
-                // A schedule shows in turns that are taken.
+                // Sizes and a schedule show in turns that are taken.
                 let taken = Counts::on(sheet).map_or(0, |counts| counts.taken);
-                if let Some(schedule) = schedule.filter(|_| taken > 0) {
+                if let Some(sizes) = sizes([racks, lanes, rounds]).filter(|_| taken > 0) {
+                    self.sizes.add(sizes);
                     self.schedules[schedule as usize] += 1;
                 }
                 lines.for_each(|line| self.add_refused(line));
@@ -176,8 +174,8 @@ fn sizes(words: [&str; 3]) -> Option<Sizes> {
 
 impl Display for NightsSeen {
     fn fmt(&self, out: &mut fmt::Formatter) -> fmt::Result {
-        write!(out, "{}", self.sizes.table("nights"))?;
-        write!(out, "nights of a schedule:")?;
+        write!(out, "{}", self.sizes.table("made nights"))?;
+        write!(out, "made nights of a schedule:")?;
         for (name, count) in self.schedule_counts() {
             write!(out, " {name} {count}")?;
         }
@@ -188,7 +186,7 @@ impl Display for NightsSeen {
         let [(size, bad_size), (cues, bad_cues)] = self.bad_counts();
         writeln!(
             out,
-            "\nnights of one line: {size} {bad_size}, {cues} {bad_cues}"
+            "\nmade nights of one line: {size} {bad_size}, {cues} {bad_cues}"
         )
     }
 }

@@ -35,7 +35,7 @@ impl Plan {
     pub fn new(kind: Kind, schedule: Schedule, random: &mut Random) -> Plan {
         let plan = Plan::drawn(schedule, random);
         match kind {
-            // A schedule shows from its first turn on.
+            // Sizes and a schedule show from the first turn on, which is taken.
             Kind::SizesInTurn(_) => Plan {
                 least_turns: 1,
                 ..plan

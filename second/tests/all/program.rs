@@ -1,36 +1,13 @@
 //! The program itself: its output, its one line of error and its exit status.
 
-use std::fs::{self, Permissions};
+use std::fs;
 use std::io::Write;
-use std::os::unix::fs::PermissionsExt;
-use std::path::{Path, PathBuf};
+use std::path::Path;
 use std::process::{Command, Stdio};
 
 use second::maker::CYCLE;
 
-/// A folder of a test's own, removed when the test is over.
-struct Scratch(PathBuf);
-
-impl Scratch {
-    fn new(name: &str) -> Scratch {
-        let path = Path::new(env!("CARGO_TARGET_TMPDIR")).join(name);
-        let _ = fs::remove_dir_all(&path);
-        fs::create_dir_all(&path).expect("a scratch folder");
-        Scratch(path)
-    }
-
-    fn write(&self, name: &str, bytes: &[u8]) {
-        let path = self.0.join(name);
-        fs::create_dir_all(path.parent().expect("a folder")).expect("a scratch folder");
-        fs::write(path, bytes).expect("a scratch file");
-    }
-}
-
-impl Drop for Scratch {
-    fn drop(&mut self) {
-        let _ = fs::remove_dir_all(&self.0);
-    }
-}
+use crate::scratch::Scratch;
 
 /// Runs the program in a folder; hands back its output, its errors and its exit status.
 fn run(folder: &Path, arguments: &[&str], input: &str) -> (String, String, Option<i32>) {
@@ -170,27 +147,63 @@ fn made_nights_compare_with_their_own_sheets() {
     assert_eq!((out.as_str(), status), ("24 passed, 0 failed\n", Some(0)));
 }
 
-/// A program that prints sheets: this one, called so.
-fn sheets_program(scratch: &Scratch) {
+/// A program that prints sheets, this one called so, and then does what these lines say.
+fn sheets_program(scratch: &Scratch, then: &str) {
     let second = env!("CARGO_BIN_EXE_second");
-    let script = format!("#!/bin/sh\nexec '{second}' sheet\n");
-    scratch.write("sheets", script.as_bytes());
-    let path = scratch.0.join("sheets");
-    fs::set_permissions(path, Permissions::from_mode(0o755)).expect("a program");
+    let script = format!("#!/bin/sh\n'{second}' sheet\n{then}\n");
+    scratch.write_program("sheets", &script);
 }
 
 #[test]
 fn hold_tells_what_came_up() {
     let scratch = Scratch::new("hold");
-    sheets_program(&scratch);
+    sheets_program(&scratch, "");
     scratch.write("nights/a/size.rec", &[3, 2, 37, 0]);
     let (out, _, status) = run(&scratch.0, &["hold", "sheets", "nights", "1", "0"], "");
-    assert_eq!(status, Some(0));
-    assert!(out.starts_with("seeds from 1, 0 of them\nnights of 1 to 8 racks: [0, 0, 1, 0, 0"));
-    assert!(out.ends_with("bad size 0, bad cues 0\n1 passed, 0 failed\n"));
+    let sum = "seeds from 1, 0 of them\n1 passed, 0 failed\n";
+    assert_eq!((out.as_str(), status), (sum, Some(0)));
     let (out, _, status) = run(&scratch.0, &["hold", "sheets", "nights", "5", "512"], "");
     assert_eq!(status, Some(0));
+    assert!(out.starts_with("seeds from 5, 512 of them\nmade nights of 1 to 8 racks: ["));
     assert!(out.ends_with("\n513 passed, 0 failed\n"), "{out}");
+}
+
+#[test]
+fn hold_counts_what_came_up_in_made_nights_alone() {
+    let scratch = Scratch::new("hold-made");
+    sheets_program(&scratch, "");
+    scratch.write("nights/a/size.rec", &[0]);
+    scratch.write("nights/b/size.rec", &[1, 1, 1, 0]);
+    scratch.write("nights/b/turns.rec", &[9, 255, 255, 0, 0, 255, 255, 0]);
+    // Seed 8 has the next sizes: no bad file in it, and one night.
+    let (out, _, status) = run(&scratch.0, &["hold", "sheets", "nights", "8", "1"], "");
+    assert_eq!(status, Some(0));
+    let counts = "made nights of one line: bad size 0, bad cues 0\n\
+                  fewer than 512 made nights: what never came up is not asked for\n\
+                  3 passed, 0 failed\n";
+    assert!(out.ends_with(counts), "{out}");
+    assert!(out.contains("made nights of 1 to 8 racks: [0, 1, 0, 0, 0, 0, 0, 0]\n"));
+}
+
+#[test]
+fn hold_fails_on_a_status_or_a_word_of_error() {
+    let scratch = Scratch::new("hold-status");
+    scratch.write("nights/a/size.rec", &[1, 1, 1, 0]);
+    let tried = [
+        ("exit 3", "the program ended with exit status: 3\n"),
+        (
+            "kill -SEGV $$",
+            "the program ended with signal: 11 (SIGSEGV)",
+        ),
+        ("echo bad >&2", "told on standard error: \"bad\\n\"\n"),
+    ];
+    for (then, told) in tried {
+        sheets_program(&scratch, then);
+        let (out, _, status) = run(&scratch.0, &["hold", "sheets", "nights", "1", "0"], "");
+        assert!(out.starts_with(&format!("nights/a: {told}")), "{out}");
+        assert!(out.ends_with("\n0 passed, 1 failed\n"), "{out}");
+        assert_eq!(status, Some(1), "{then}");
+    }
 }
 
 #[test]

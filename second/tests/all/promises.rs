@@ -1,32 +1,14 @@
-//! docs/PROMISES.md against the text of the proved crates: every public call has a row and a law, its promise names all that is lent for writing, and
-//! every inner call that requires something has a row that names the crates of its callers.
+//! docs/PROMISES.md against the text of the proved crates: every public call has a row and a law, its row names the definitions that its contract
+//! cites and the wrong bodies that were tried, its promise names all that is lent for writing, and every inner call that requires something has a
+//! row that names the crates of its callers.
 
-use std::collections::{BTreeMap, BTreeSet};
-use std::fs;
-use std::path::{Path, PathBuf};
+use std::collections::BTreeMap;
 
-type Names = BTreeSet<String>;
+use crate::pages::{declared, edits, folder, links, quoted, quoted_in_order, read, Names};
 
 const PUBLIC: [&str; 7] = [
     "fresh", "card", "entry", "compare", "turns", "cues", "ports",
 ];
-
-fn path(inside: &str) -> PathBuf {
-    Path::new(env!("CARGO_MANIFEST_DIR"))
-        .join("..")
-        .join(inside)
-}
-
-fn read(inside: &str) -> String {
-    fs::read_to_string(path(inside)).unwrap_or_else(|e| panic!("{inside}: {e}"))
-}
-
-fn folder(inside: &str) -> Vec<String> {
-    let entries = fs::read_dir(path(inside)).unwrap();
-    entries
-        .map(|e| e.unwrap().file_name().into_string().unwrap())
-        .collect()
-}
 
 /// A crate's files of code, each with the path of its functions: `sound::` for the root, `sound::tables::` for a module.
 fn files(name: &str) -> Vec<(String, String)> {
@@ -94,26 +76,30 @@ fn callers(call: &str) -> Names {
         .collect()
 }
 
-/// What stands in backquotes.
-fn quoted(text: &str) -> Names {
-    text.split('`')
-        .skip(1)
-        .step_by(2)
-        .map(str::to_string)
-        .collect()
-}
-
-/// The rows of the table under a heading: the calls of the first column, and the last column.
-fn rows(heading: &str) -> Vec<(Names, String)> {
+/// The rows of the table under a heading: the calls of the first column, and all columns.
+fn rows(heading: &str) -> Vec<(Names, Vec<String>)> {
     let page = read("docs/PROMISES.md");
     let part = page
         .split("\n## ")
         .find(|part| part.starts_with(heading))
         .unwrap();
-    let rows = part.lines().filter(|line| line.starts_with("| `"));
-    let columns = rows.map(|line| line.trim_matches('|').split(" | ").collect::<Vec<_>>());
-    columns
-        .map(|row| (quoted(row[0]), row[row.len() - 1].to_string()))
+    let rows = part.lines().filter(|line| line.starts_with("| "));
+    let columns = rows.map(|line| {
+        let row = line.trim_matches(['|', ' ']).split(" | ");
+        row.map(str::to_string).collect::<Vec<_>>()
+    });
+    columns.map(|row| (quoted(&row[0]), row)).collect()
+}
+
+/// The rows of the public calls, each with its one call.
+fn public_rows() -> Vec<(String, Vec<String>)> {
+    let rows = [rows("The calls"), rows("What a firmware links")].concat();
+    let of_calls = rows.into_iter().filter(|(calls, _)| !calls.is_empty());
+    of_calls
+        .map(|(calls, row)| {
+            assert_eq!(calls.len(), 1, "{calls:?}");
+            (calls.into_iter().next().unwrap(), row)
+        })
         .collect()
 }
 
@@ -122,6 +108,25 @@ fn calls(heading: &str) -> Names {
         .into_iter()
         .flat_map(|(calls, _)| calls)
         .collect()
+}
+
+/// The name that an import of a call's contract, or of its theorem, has in a file.
+fn alias(text: &str, call: &str, theorem: &str) -> String {
+    let import = format!("use Rattle.{}{theorem} as ", call.replace("::", ".proofs."));
+    let found = text.lines().find_map(|line| line.strip_prefix(&import));
+    found.unwrap_or_else(|| panic!("{import}")).to_string()
+}
+
+/// A declaration with its body: what it is declared as, and the words behind that.
+fn declaration<'a>(text: &'a str, name: &str) -> (&'a str, Vec<&'a str>) {
+    let head = format!("{name} : ");
+    let block = text
+        .split("\n\n")
+        .find_map(|block| Some(&block[block.find(&head)?..]))
+        .unwrap_or_else(|| panic!("{name}"));
+    let (kind, body) = block[head.len()..].split_once('\n').expect(name);
+    let words = body.split(|c: char| c.is_whitespace() || "(){};,".contains(c));
+    (kind, words.collect())
 }
 
 #[test]
@@ -136,16 +141,101 @@ fn every_public_call_has_a_row_and_a_law() {
     assert_eq!(told, free);
     let promises = read("crates/promises/specs/Calls.antt");
     let laws = read("crates/promises/proofs/Once.antt");
-    for call in told {
-        let contract = format!("use Rattle.{}", call.replace("::", ".proofs."));
+    let mut kept = Names::new();
+    for call in &told {
+        let function = call.split("::").nth(1).unwrap().replace('_', "-");
+        let (promise, law) = declaration(&laws, &format!("pub {function}-once"));
+        let theorem = format!("{}.met", alias(&laws, call, ".Met"));
+        assert!(law.contains(&theorem.as_str()), "{theorem} in Once.antt");
+        let promise = promise.strip_prefix("calls.").expect(call);
+        let (_, said) = declaration(&promises, &format!("abbrev pub {promise}"));
+        let contract = format!("{}.ended", alias(&promises, call, ""));
+        assert!(said.contains(&contract.as_str()), "{contract} in {promise}");
+        kept.insert(promise.to_string());
+    }
+    assert_eq!(kept.len(), told.len());
+}
+
+#[test]
+fn every_row_names_what_the_contract_cites() {
+    for (call, row) in public_rows() {
+        let promise = &row[1];
+        let head = exported(call.split("::").next().unwrap())[&call].clone();
+        let ensured = head.split_once("ensures {").expect(&call).1;
+        let cited: Names = ensured
+            .split(|c: char| c.is_whitespace() || "()".contains(c))
+            .map(str::to_string)
+            .collect();
+        let linked: Names = links(promise).iter().flat_map(|to| declared(to)).collect();
+        let named = quoted(promise);
         assert!(
-            promises.contains(&format!("{contract} as ")),
-            "{call} in Calls.antt"
+            !named.is_empty() || promise.starts_with("two equations"),
+            "{call}: {promise}"
         );
-        assert!(
-            laws.contains(&format!("{contract}.Met as ")),
-            "{call} in Once.antt"
-        );
+        for name in named {
+            // A theorem has hyphens, and is about the definition that the contract cites.
+            assert!(
+                name.contains('-') || cited.contains(&name),
+                "{name} in {call}"
+            );
+            assert!(linked.contains(&name), "{name} of {call} in its files");
+        }
+    }
+}
+
+/// The edits that a text names, as `fresh/decisions_zero`.
+fn named_edits(text: &str) -> Names {
+    quoted_in_order(text)
+        .into_iter()
+        .filter(|name| {
+            name.split_once('/').is_some_and(|(of, edit)| {
+                folder("crates").contains(&of.to_string()) && !edit.contains('/')
+            })
+        })
+        .collect()
+}
+
+/// A crate and all that it stands on.
+fn below(name: &str) -> Names {
+    let list = read("crates.txt");
+    let head = format!("{name}:");
+    let on = list.lines().find_map(|line| line.strip_prefix(&head));
+    let on = on.unwrap_or_default().split_whitespace();
+    let mut all: Names = on.flat_map(below).collect();
+    all.insert(name.to_string());
+    all
+}
+
+#[test]
+fn every_row_names_wrong_bodies_that_were_tried() {
+    let all: Names = folder("crates")
+        .iter()
+        .flat_map(|name| edits(name))
+        .collect();
+    let named = named_edits(&read("docs/PROMISES.md"));
+    assert_eq!(&named - &all, Names::new(), "no such edits");
+    let public: Names = PUBLIC.iter().flat_map(|name| edits(name)).collect();
+    assert_eq!(&public - &named, Names::new(), "not in PROMISES.md");
+    for (call, row) in public_rows() {
+        let tried = named_edits(&row[3]);
+        assert!(tried.len() >= 2, "{call} has two wrong bodies: {tried:?}");
+        let below = below(call.split("::").next().unwrap());
+        for edit in tried {
+            let of = edit.split('/').next().unwrap();
+            assert!(below.contains(of), "{edit} of {call}");
+        }
+    }
+}
+
+#[test]
+fn every_refusal_has_a_wrong_body_that_was_tried() {
+    let rows = rows("Wrong bodies that were tried");
+    for number in 1..=10 {
+        let (_, row) = rows
+            .iter()
+            .find(|(_, row)| row[0] == number.to_string())
+            .unwrap_or_else(|| panic!("refusal {number}"));
+        assert!(!named_edits(&row[1]).is_empty(), "refusal {number}");
     }
 }
 
@@ -176,8 +266,8 @@ fn every_inner_call_that_requires_something_has_a_row() {
         .collect();
     assert_eq!(calls("Inner calls"), told);
     let crates: Names = folder("crates").into_iter().collect();
-    for (calls, established) in rows("Inner calls") {
-        let by: Names = quoted(&established)
+    for (calls, row) in rows("Inner calls") {
+        let by: Names = quoted(&row[row.len() - 1])
             .iter()
             .map(|name| name.split("::").next().unwrap().to_string())
             .collect();

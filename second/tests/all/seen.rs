@@ -7,25 +7,25 @@ use second::sizes::Sizes;
 use crate::driver::sheet_of;
 
 /// Sheets that have all there is, each with its schedule: the sizes in turn, then the refusals.
-fn whole() -> Vec<(String, Option<Schedule>)> {
+fn whole() -> Vec<(String, Schedule)> {
     let mut sheets: Vec<_> = (0..64)
         .map(|index| {
             let (racks, lanes, rounds) = (1 + index % 8, 1 + index / 8 % 4, 1 + index);
             let size = format!("racks {racks} lanes {lanes} rounds {rounds}");
             let sheet = format!("{size}\nturns 1 taken 1 refused 0\n");
-            (sheet, Some(Schedule::ALL[index % 5]))
+            (sheet, Schedule::ALL[index % 5])
         })
         .collect();
     sheets.extend(OF_A_NIGHT.map(|refusal| {
         let line = format!("racks 1 lanes 1 rounds 1\nrefused 0 {}\n", refusal.number());
-        (line, None)
+        (line, Schedule::Solo)
     }));
-    sheets.push(("bad size\n".to_string(), None));
-    sheets.push(("bad cues 7\n".to_string(), None));
+    sheets.push(("bad size\n".to_string(), Schedule::Solo));
+    sheets.push(("bad cues 7\n".to_string(), Schedule::Solo));
     sheets
 }
 
-fn missing_in(sheets: &[(String, Option<Schedule>)]) -> Vec<String> {
+fn missing_in(sheets: &[(String, Schedule)]) -> Vec<String> {
     let mut seen = NightsSeen::default();
     for (sheet, schedule) in sheets {
         seen.add(sheet.as_bytes(), *schedule);
@@ -34,7 +34,7 @@ fn missing_in(sheets: &[(String, Option<Schedule>)]) -> Vec<String> {
 }
 
 /// All sheets but those that begin so, or have such a line.
-fn without(line: &str) -> Vec<(String, Option<Schedule>)> {
+fn without(line: &str) -> Vec<(String, Schedule)> {
     let mut sheets = whole();
     sheets.retain(|(sheet, _)| !sheet.contains(line));
     assert!(sheets.len() < whole().len(), "{line}");
@@ -101,21 +101,25 @@ fn racks_and_lanes_that_never_came_up_are_told_with_their_pairs() {
 
 #[test]
 fn a_schedule_counts_where_turns_are_taken() {
-    let sheets: Vec<_> = whole()
-        .into_iter()
-        .map(|(sheet, schedule)| match schedule {
-            Some(Schedule::Solo) => (sheet, None),
-            other => (sheet, other),
-        })
-        .chain(
-            [
-                "bad size\n",
-                "racks 1 lanes 1 rounds 1\nturns 1 taken 0 refused 1\n",
-            ]
-            .map(|sheet| (sheet.to_string(), Some(Schedule::Solo))),
-        )
-        .collect();
+    let mut sheets = whole();
+    for (sheet, schedule) in &mut sheets {
+        if sheet.contains(" taken 1 ") && *schedule == Schedule::Solo {
+            *schedule = Schedule::Bursts;
+        }
+    }
+    let untaken = "racks 1 lanes 1 rounds 1\nturns 1 taken 0 refused 1\n";
+    sheets.push((untaken.to_string(), Schedule::Solo));
     assert_eq!(missing_in(&sheets), ["never came up: schedule solo"]);
+}
+
+#[test]
+fn sizes_count_where_turns_are_taken() {
+    let mut sheets = without("rounds 37\n");
+    for turns in ["", "turns 0 taken 0 refused 0\n"] {
+        let sheet = format!("racks 5 lanes 1 rounds 37\n{turns}");
+        sheets.push((sheet, Schedule::Solo));
+    }
+    assert_eq!(missing_in(&sheets), ["never came up: R = 37"]);
 }
 
 #[test]
@@ -131,9 +135,28 @@ fn the_nights_of_a_cycle_have_all() {
         for index in 0..CYCLE {
             let made = make(first + index);
             let sheet = sheet_of(&made.files);
-            seen.add(sheet.as_bytes(), Some(made.summary.schedule));
+            seen.add(sheet.as_bytes(), made.summary.schedule);
         }
         assert_eq!(seen.missing(), Vec::<String>::new(), "from seed {first}");
+    }
+}
+
+#[test]
+fn the_nights_of_sizes_in_turn_have_all_sizes_wherever_they_start() {
+    let of_sizes = |seed: &u64| matches!(Kind::of(*seed), Kind::SizesInTurn(_));
+    let nights: Vec<Sizes> = (0..2 * CYCLE)
+        .filter(of_sizes)
+        .map(|seed| {
+            let summary = make(seed).summary;
+            assert!(summary.replies[0] > 0, "seed {seed}");
+            summary.sizes
+        })
+        .collect();
+    assert_eq!(nights.len(), 128);
+    for (first, in_a_cycle) in nights.windows(64).enumerate() {
+        let mut seen = SizesSeen::default();
+        in_a_cycle.iter().for_each(|sizes| seen.add(*sizes));
+        assert_eq!(seen.missing(), Vec::<String>::new(), "from index {first}");
     }
 }
 
