@@ -5,6 +5,7 @@ use mathlib.Core.List.{List}
 use mathlib.Core.Bool.{Bool}
 use Prim.Native.Nat.{ℕ}
 use denote.Ref.{RefT, now}
+use Rattle.model.specs.Record.{Logs}
 use Rattle.laws.proofs.Cases.{either, bool}
 use Rattle.model.specs.declared.Size.{Size}
 use Rattle.model.specs.declared.Entry.{Entry}
@@ -41,7 +42,7 @@ pub sound-once : (s : Size) (c : Card) (o o′ : ℕ) → o ≡ soundness s c �
 sound-once s c o o′ p q = once p q
 
 -- log entry
-pub entry-once : (s : Size) (logs : List ℕ) (rack lane place : ℕ) (o o′ : Entry)
+pub entry-once : (s : Size) (logs : Logs) (rack lane place : ℕ) (o o′ : Entry)
     → o ≡ logEntry s logs rack lane place → o′ ≡ logEntry s logs rack lane place → o ≡ o′
 entry-once s logs rack lane place o o′ p q = once p q
 
@@ -104,7 +105,7 @@ pub code-once : (n k : ℕ) (lists : List ℕ) (rack lane number : ℕ) (o o′ 
 code-once n k lists rack lane number o o′ p q = once p q
 
 -- what a firmware is told in numbers; the other exported calls promise what those above do
-pub entry-told-once : (s : Size) (logs : List ℕ) (rack lane place : ℕ) (o o′ : EntryAnswer)
+pub entry-told-once : (s : Size) (logs : Logs) (rack lane place : ℕ) (o o′ : EntryAnswer)
     → o ≡ entryTold (logEntry s logs rack lane place) → o′ ≡ entryTold (logEntry s logs rack lane place) → o ≡ o′
 entry-told-once s logs rack lane place o o′ p q = once p q
 

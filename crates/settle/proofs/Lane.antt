@@ -5,15 +5,16 @@ use mathlib.Core.Logic.{_≢_}
 use mathlib.Core.Bool.{Bool, true, false}
 use Prim.Native.Nat.{ℕ, suc, _+_, _≤_, _<_}
 use native.Mathlib.Omega.{arith}
+use Rattle.model.specs.InUse.{logsOf}
 use Rattle.model.specs.declared.Size.{Size}
 use Rattle.model.specs.declared.Cue.{Cue}
 use Rattle.model.specs.declared.Value.{Value}
 use Rattle.model.specs.declared.Cell.{Cell}
 use Rattle.model.specs.declared.Rack.{Rack}
-use Rattle.model.specs.Record.{entryAt}
+use Rattle.model.specs.Record.{entryAt, Logs}
 use Rattle.model.specs.Table.{logStart, lengthFrom, resultAt, newsAt}
 use Rattle.model.specs.Settle.{Log, appendMissed, appendCommitted, settledLog, stateOf, settledRack, Settled, laneLog, settleLane}
-use Rattle.model.proofs.Record.{load-other-entry}
+use Rattle.model.proofs.Record.{load-other}
 use Rattle.settle.specs.Append.{appendIf, grownIf, isMissed, isDue, logWith, logAt}
 use Rattle.settle.specs.Lent.{Room, Lent}
 use Rattle.model.proofs.Sizes.{sizes}
@@ -30,7 +31,7 @@ append-start false log c = refl
 
 append-other : (due : Bool) (log : Log) (c : Cue) (i : ℕ) → (due ≡ true → i ≢ log .start + log .length)
     → entryAt (appendIf due log c .table) i ≡ entryAt (log .table) i
-append-other true log c i away = load-other-entry (log .table) (log .start + log .length) i c (away refl)
+append-other true log c i away = load-other (log .table) (log .start + log .length) c i (away refl)
 append-other false log c i away = refl
 
 grown-least : (due : Bool) (l : ℕ) → l ≤ grownIf due l
@@ -96,7 +97,7 @@ committed-least log result =
     omega (arith, append-length due log (result .value .cue), grown-least due (log .length))
 
 -- rules 1 and 2 as the code takes them: L before, whether a cue was missed, the log between them, whether the result's cue is due
-module _ (logs : List ℕ) (start rounds : ℕ) (result : Cell) (news : Value) {before : ℕ} {missed : Bool}
+module _ (logs : Logs) (start rounds : ℕ) (result : Cell) (news : Value) {before : ℕ} {missed : Bool}
     (here : before ≡ lengthFrom logs start rounds) (m : missed ≡ isMissed before news) where
   -- a missed cue has its place in the log
   pub missed-room : settledLog (logAt logs start rounds) result news .length ≤ rounds → missed ≡ true → before < rounds
@@ -122,7 +123,7 @@ module _ (logs : List ℕ) (start rounds : ℕ) (result : Cell) (news : Value) {
 
 module _ (s : Size) (logs : List ℕ) (rack : ℕ) (r : Rack) (lane : ℕ) {start : ℕ} (at : start ≡ logStart s rack lane) where
   -- a lane's log by its start
-  pub lane-as : settledLog (logAt logs start (s .rounds)) (resultAt r lane) (newsAt r lane) ≡ laneLog s rack logs r lane
+  pub lane-as : settledLog (logAt (logsOf logs) start (s .rounds)) (resultAt r lane) (newsAt r lane) ≡ laneLog s rack (logsOf logs) r lane
   unfolding laneLog
   lane-as = rw at
 
@@ -135,7 +136,7 @@ module _ (s : Size) (logs : List ℕ) (rack : ℕ) (r : Rack) (lane : ℕ) {star
       }
 
 -- the lane's log, and the rack that its settling leaves
-pub settled-lane : (s : Size) (rack : ℕ) (logs : List ℕ) (r : Rack) (lane : ℕ) {q : Rack} (log : Log) → log ≡ laneLog s rack logs r lane
+pub settled-lane : (s : Size) (rack : ℕ) (logs : Logs) (r : Rack) (lane : ℕ) {q : Rack} (log : Log) → log ≡ laneLog s rack logs r lane
     → q ≡ settledRack r lane rack (stateOf rack log) → _≡_ {A = Settled} (record { logs = log .table; rack = q }) (settleLane s rack logs r lane)
 unfolding settleLane
 settled-lane s rack logs r lane log e f = rw (f, e)

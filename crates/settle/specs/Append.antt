@@ -1,5 +1,4 @@
 -- A log that is appended to under a condition, and its length.
-use mathlib.Core.List.{List}
 use mathlib.Core.Bool.{Bool, cond, _&&_}
 use Prim.Native.Nat.{ℕ, suc}
 use lib.Dec.{eqb, leb}
@@ -8,7 +7,7 @@ use Rattle.model.specs.declared.Cue.{Cue}
 use Rattle.model.specs.declared.Value.{Value}
 use Rattle.model.specs.declared.Cell.{Cell}
 use Rattle.model.specs.declared.Rack.{Rack}
-use Rattle.model.specs.Record.{isCommitted}
+use Rattle.model.specs.Record.{isCommitted, Logs}
 use Rattle.model.specs.Table.{lengthFrom}
 use Rattle.model.specs.Settle.{Log, append, laneLog}
 
@@ -27,13 +26,13 @@ abbrev pub isDue : ℕ → Cell → Bool
 isDue length result = isCommitted result && eqb (result .value .place) length
 
 -- the log of so many entries that starts at a record
-abbrev pub logWith : List ℕ → ℕ → ℕ → Log
+abbrev pub logWith : Logs → ℕ → ℕ → Log
 logWith table start length = record { table = table; start = start; length = length }
 
 -- the log that starts at a record, by the table: at most so many entries
-abbrev pub logAt : List ℕ → ℕ → ℕ → Log
+abbrev pub logAt : Logs → ℕ → ℕ → Log
 logAt table start most = logWith table start (lengthFrom table start most)
 
 -- settling leaves a lane's log no longer than R
-abbrev pub laneFits : Size → ℕ → List ℕ → Rack → ℕ → Bool
+abbrev pub laneFits : Size → ℕ → Logs → Rack → ℕ → Bool
 laneFits s rack logs r lane = leb (laneLog s rack logs r lane .length) (s .rounds)

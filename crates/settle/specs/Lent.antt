@@ -6,7 +6,8 @@ use Prim.Native.Nat.{ℕ, _+_, _*_, _≤_, _<_}
 use lib.ListN.{length}
 use Rattle.model.specs.declared.Size.{Size}
 use Rattle.model.specs.declared.Rack.{Rack}
-use Rattle.model.specs.Size.{sizeFits, logsLength}
+use Rattle.model.specs.Size.{sizeFits}
+use Rattle.model.specs.InUse.{logsOf, logsLength}
 use Rattle.model.specs.Settle.{laneLog, tooLong}
 
 -- so many records from a log's start on lie within the table
@@ -24,9 +25,9 @@ pub record Lent (s : Size) (logs : List ℕ) (rack : ℕ) : Type 0 where
 pub record LaneLent (s : Size) (logs : List ℕ) (rack : ℕ) (r : Rack) (lane : ℕ) : Type 0 where
   pub lent : Lent s logs rack
   pub lane-there : lane < s .lanes
-  pub room : laneLog s rack logs r lane .length ≤ s .rounds
+  pub room : laneLog s rack (logsOf logs) r lane .length ≤ s .rounds
 
 -- all its lanes
 pub record LanesLent (s : Size) (logs : List ℕ) (rack : ℕ) (r : Rack) : Type 0 where
   pub lent : Lent s logs rack
-  pub room : tooLong s rack logs r ≡ false
+  pub room : tooLong s rack (logsOf logs) r ≡ false

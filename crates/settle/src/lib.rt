@@ -3,6 +3,7 @@ ghost use mathlib.Core.Path.{_≡_};
 ghost use mathlib.Core.Bool.{true};
 ghost use Prim.Native.Nat.{_+_, _*_, _≤_, _<_};
 ghost use lib.ListN.{length};
+ghost use Rattle.model.specs.InUse.{logsOf};
 ghost use Rattle.model.specs.Settle.{stateOf, settledLog, settleLane, settleLanes, tooLong};
 ghost use Rattle.settle.specs.Append.{appendIf, grownIf, isMissed, isDue, logWith, logAt, laneFits};
 ghost use Rattle.settle.specs.Lent.{Room, Lent, LaneLent, LanesLent};
@@ -46,7 +47,7 @@ fn grown_if(count: usize, due: bool) -> usize
 // Appends a cue to a log if it is due, at place L, and gives the L that this leaves.
 fn append_if(logs: &mut [u8], start: usize, count: usize, c: Cue, due: bool) -> usize
     requires { ⌜ (due ≡ true → 2 * (start + count) + 2 ≤ length (now logs)) ⌝ }
-    ensures { λ l. ⌜ logWith (now (logs .exit)) start l ≡ appendIf due (logWith (now (logs .entry)) start count) c ⌝ }
+    ensures { λ l. ⌜ logWith (logsOf (now (logs .exit))) start l ≡ appendIf due (logWith (logsOf (now (logs .entry))) start count) c ⌝ }
 {
     if due {
         logs::store(logs, start + count, c);
@@ -58,7 +59,7 @@ fn append_if(logs: &mut [u8], start: usize, count: usize, c: Cue, due: bool) -> 
 // What a lane's log says to its rack.
 fn log_state(logs: &[u8], start: usize, count: usize, rack: u8) -> LogState
     requires { ⌜ (2 * (start + count) ≤ length (now logs)) × (count ≤ 64) ⌝ }
-    ensures { λ s. ⌜ s ≡ stateOf rack (logWith (now (logs .entry)) start count) ⌝ }
+    ensures { λ s. ⌜ s ≡ stateOf rack (logWith (logsOf (now (logs .entry))) start count) ⌝ }
 {
     let own = logs::own_cues(logs, start, rack, count);
     let last = logs::last_entry(logs, start, count);
@@ -71,8 +72,8 @@ fn log_state(logs: &[u8], start: usize, count: usize, rack: u8) -> LogState
 
 // Rules 1 and 2 append to the log that starts at `start`; the L that they leave.
 fn append_lane(logs: &mut [u8], start: usize, rounds: usize, result: Cell, news: Value) -> usize
-    requires { ⌜ Room (now logs) start rounds × (settledLog (logAt (now logs) start rounds) result news .length ≤ rounds) ⌝ }
-    ensures { λ l. ⌜ logWith (now (logs .exit)) start l ≡ settledLog (logAt (now (logs .entry)) start rounds) result news ⌝ }
+    requires { ⌜ Room (now logs) start rounds × (settledLog (logAt (logsOf (now logs)) start rounds) result news .length ≤ rounds) ⌝ }
+    ensures { λ l. ⌜ logWith (logsOf (now (logs .exit))) start l ≡ settledLog (logAt (logsOf (now (logs .entry))) start rounds) result news ⌝ }
 {
     let value = result.value;
     let previous = news.previous;
@@ -87,7 +88,7 @@ fn append_lane(logs: &mut [u8], start: usize, rounds: usize, result: Cell, news:
 // One lane: two rules append to its log, the third is the rack's own method.
 pub fn settle_lane(logs: &mut [u8], size: Size, rack: usize, r: Rack, lane: usize) -> Rack
     requires { ⌜ LaneLent size (now logs) rack r lane ⌝ }
-    ensures { λ q. ⌜ record { logs = now (logs .exit); rack = q } ≡ settleLane size rack (now (logs .entry)) r lane ⌝ }
+    ensures { λ q. ⌜ record { logs = logsOf (now (logs .exit)); rack = q } ≡ settleLane size rack (logsOf (now (logs .entry))) r lane ⌝ }
 {
     let news = r.news[lane];
     let result = r.results[lane];
@@ -100,7 +101,7 @@ pub fn settle_lane(logs: &mut [u8], size: Size, rack: usize, r: Rack, lane: usiz
 // "settles every lane", one after the other.
 pub fn settle_lanes(logs: &mut [u8], size: Size, rack: usize, r: Rack) -> Rack
     requires { ⌜ LanesLent size (now logs) rack r ⌝ }
-    ensures { λ q. ⌜ record { logs = now (logs .exit); rack = q } ≡ settleLanes size rack (now (logs .entry)) r (size .lanes) ⌝ }
+    ensures { λ q. ⌜ record { logs = logsOf (now (logs .exit)); rack = q } ≡ settleLanes size rack (logsOf (now (logs .entry))) r (size .lanes) ⌝ }
 {
     let k = size.lanes;
     let mut q = r;
@@ -113,7 +114,7 @@ pub fn settle_lanes(logs: &mut [u8], size: Size, rack: usize, r: Rack) -> Rack
 // The L that rules 1 and 2 would leave.
 fn settled_length(logs: &[u8], start: usize, rounds: usize, result: Cell, news: Value) -> usize
     requires { ⌜ Room (now logs) start rounds ⌝ }
-    ensures { λ l. ⌜ l ≡ settledLog (logAt (now (logs .entry)) start rounds) result news .length ⌝ }
+    ensures { λ l. ⌜ l ≡ settledLog (logAt (logsOf (now (logs .entry))) start rounds) result news .length ⌝ }
 {
     let before = logs::length_from(logs, start, rounds);
     let between = grown_if(before, is_missed(before, news));
@@ -123,7 +124,7 @@ fn settled_length(logs: &[u8], start: usize, rounds: usize, result: Cell, news: 
 // Settling would leave a lane's log no longer than R.
 fn lane_fits(logs: &[u8], size: Size, rack: usize, r: Rack, lane: usize) -> bool
     requires { ⌜ Lent size (now logs) rack × (lane < size .lanes) ⌝ }
-    ensures { λ b. ⌜ b ≡ laneFits size rack (now (logs .entry)) r lane ⌝ }
+    ensures { λ b. ⌜ b ≡ laneFits size rack (logsOf (now (logs .entry))) r lane ⌝ }
 {
     let news = r.news[lane];
     let result = r.results[lane];
@@ -135,7 +136,7 @@ fn lane_fits(logs: &[u8], size: Size, rack: usize, r: Rack, lane: usize) -> bool
 // "settling would make a log longer than R"
 pub fn too_long(logs: &[u8], size: Size, rack: usize, r: Rack) -> bool
     requires { ⌜ Lent size (now logs) rack ⌝ }
-    ensures { λ b. ⌜ b ≡ tooLong size rack (now (logs .entry)) r ⌝ }
+    ensures { λ b. ⌜ b ≡ tooLong size rack (logsOf (now (logs .entry))) r ⌝ }
 {
     let k = size.lanes;
     let mut all = true;

@@ -4,6 +4,7 @@ ghost use mathlib.Core.Path.{_≡_};
 ghost use mathlib.Core.Bool.{true};
 ghost use Prim.Native.Nat.{_+_, _*_, _≤_, _<_};
 ghost use lib.ListN.{length};
+ghost use Rattle.model.specs.InUse.{cardOf};
 ghost use Rattle.model.specs.Size.{sizeFits};
 ghost use Rattle.model.specs.Cues.{listsFit};
 ghost use Rattle.sheet.specs.Night.{Played, PartReady, PartDone, RackReady, LogsReady};
@@ -104,8 +105,8 @@ fn play_some(
     night: Night,
     out: &mut [u8],
 ) -> Night
-    requires { ⌜ PartReady size (record { tables = record { cells = now cells; logs = now logs; decisions = now decisions }; racks = night .racks }) (night .read) (night .taken) (now out) ⌝ }
-    ensures { λ r. ⌜ PartDone size (record { tables = record { cells = now (cells .exit); logs = now (logs .exit); decisions = now (decisions .exit) }; racks = r .racks }) (night .read) (r .read) (r .taken) ⌝ }
+    requires { ⌜ PartReady size (cardOf (now cells) (now logs) (now decisions) (night .racks)) (night .read) (night .taken) (now out) ⌝ }
+    ensures { λ r. ⌜ PartDone size (cardOf (now (cells .exit)) (now (logs .exit)) (now (decisions .exit)) (r .racks)) (night .read) (r .read) (r .taken) ⌝ }
 {
     let mut buf = [0u8; 2048];
     let n = io::read_full(fd, &mut buf);
@@ -157,8 +158,8 @@ fn play_all(
     racks: [Rack; 8],
     out: &mut [u8],
 ) -> Night
-    requires { ⌜ PartReady size (record { tables = record { cells = now cells; logs = now logs; decisions = now decisions }; racks = racks }) 0 0 (now out) ⌝ }
-    ensures { λ r. ⌜ Played size (record { tables = record { cells = now (cells .exit); logs = now (logs .exit); decisions = now (decisions .exit) }; racks = r .racks }) (r .read) (r .taken) ⌝ }
+    requires { ⌜ PartReady size (cardOf (now cells) (now logs) (now decisions) racks) 0 0 (now out) ⌝ }
+    ensures { λ r. ⌜ Played size (cardOf (now (cells .exit)) (now (logs .exit)) (now (decisions .exit)) (r .racks)) (r .read) (r .taken) ⌝ }
 {
     let mut night = Night {
         racks,

@@ -1,6 +1,7 @@
 -- The two appends under the conditions that the two calls give.
 use native.Mathlib.Omega.{arith}
 use borrow.Author.Needs.{needs}
+use Rattle.model.specs.InUse.{logsOf}
 use Rattle.logs.proofs.Length.{length-most}
 use Rattle.settle.proofs.Lane.{missed-room, due-room, settled-as}
 use Rattle.settle.proofs.append_lane.Statement.{statement}
@@ -9,7 +10,7 @@ use Rattle.settle.proofs.append_lane.Tie as tie
 is-missed-requires : tie.Need-is-missed-requires
 is-missed-requires c κs =
     let a = c .before .before .before .before .before .before .args in
-    omega (arith, length-most (a .logs .now) (a .start) (a .rounds))
+    omega (arith, length-most (logsOf (a .logs .now)) (a .start) (a .rounds))
 
 append-if-requires : tie.Need-append-if-requires
 append-if-requires c κs t =
@@ -18,7 +19,7 @@ append-if-requires c κs t =
     let a = begin .args in
     let p = begin .pre in
     let room =
-    missed-room (a .logs .now) (a .start) (a .rounds) (a .result) (a .news) (length .length-from .ensures) (c .before .is-missed .ensures)
+    missed-room (logsOf (a .logs .now)) (a .start) (a .rounds) (a .result) (a .news) (length .length-from .ensures) (c .before .is-missed .ensures)
     (p .1) t
     in
     omega arith
@@ -31,7 +32,7 @@ append-if-requires-2 c κs t =
     let a = begin .args in
     let p = begin .pre in
     let room =
-    due-room (a .logs .now) (a .start) (a .rounds) (a .result) (a .news) (length .length-from .ensures) (first .before .before .is-missed .ensures)
+    due-room (logsOf (a .logs .now)) (a .start) (a .rounds) (a .result) (a .news) (length .length-from .ensures) (first .before .before .is-missed .ensures)
     (first .append-if .ensures) (c .before .is-due .ensures) (p .1) t
     in
     omega (arith, first .append-if .kept .0)
@@ -42,7 +43,7 @@ returns c =
     let first = second .before .before .before .before .before in
     let length = first .before .before .before in
     let a = length .before .before .before .before .before .before .args in
-    settled-as (a .logs .now) (a .start) (a .rounds) (a .result) (a .news) (length .length-from .ensures) (first .before .before .is-missed .ensures)
+    settled-as (logsOf (a .logs .now)) (a .start) (a .rounds) (a .result) (a .news) (length .length-from .ensures) (first .before .before .is-missed .ensures)
     (first .append-if .ensures) (second .before .before .is-due .ensures) (second .append-if2 .ensures)
 
 pub append-lane-spec : {M : Type 1} → statement M

@@ -3,6 +3,7 @@ use mathlib.Core.Path.{_≡_, ap, _∙_}
 use Prim.Native.Nat.{_≤_, _<_}
 use native.Mathlib.Omega.{arith}
 use borrow.Author.Needs.{needs}
+use Rattle.model.specs.InUse.{logsOf}
 use Rattle.model.specs.declared.LogState.{LogState}
 use Rattle.model.specs.Settle.{Log, settledRack, laneLog}
 use Rattle.logs.proofs.Length.{own-most}
@@ -44,10 +45,10 @@ abbrev begun : tie.After-append-lane → tie.Start
 begun c = c .before .before .before .before .before .before
 
 abbrev log : tie.After-append-lane → Log
-log c = logWith (c .append-lane .last .0) (c .before .before .log-start .result) (c .append-lane .result)
+log c = logWith (logsOf (c .append-lane .last .0)) (c .before .before .log-start .result) (c .append-lane .result)
 
 log-is : (c : tie.After-append-lane)
-    → log c ≡ laneLog (begun c .args .size) (begun c .args .rack) (begun c .args .logs .now) (begun c .args .t4) (begun c .args .lane)
+    → log c ≡ laneLog (begun c .args .size) (begun c .args .rack) (logsOf (begun c .args .logs .now)) (begun c .args .t4) (begun c .args .lane)
 log-is c =
     let a = begun c .args in
     rw (← lane-as (a .size) (a .logs .now) (a .rack) (a .t4) (a .lane) (c .before .before .log-start .ensures)) (c .append-lane .ensures)
@@ -76,7 +77,7 @@ returns : tie.Need-returns
 returns c =
     let done = c .before .before .before .before .before in
     let a = begun done .args in
-    settled-lane (a .size) (a .rack) (a .logs .now) (a .t4) (a .lane) (log done) (log-is done)
+    settled-lane (a .size) (a .rack) (logsOf (a .logs .now)) (a .t4) (a .lane) (log done) (log-is done)
     (c .settle .ensures ∙ ap (settledRack (a .t4) (a .lane) (a .rack)) (c .before .log-state .ensures))
 
 pub settle-lane-spec : {M : Type 1} → statement M

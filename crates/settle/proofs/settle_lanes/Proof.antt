@@ -5,6 +5,7 @@ use mathlib.Core.Path.{_≡_, sym, subst, _∙_}
 use Prim.Native.Nat.{_≤_, _-_}
 use native.Mathlib.Numerals.{add-one}
 use borrow.Author.Needs.{needs}
+use Rattle.model.specs.InUse.{logsOf}
 use Rattle.model.specs.Settle.{laneLog, Settled, settleLanes}
 use Rattle.settle.proofs.Lanes.{fits-in-turn}
 use Rattle.settle.proofs.settle_lanes.Statement.{statement}
@@ -14,7 +15,7 @@ abbrev Inv-loop : tie.InvT-loop
 Inv-loop logs₀ size rack k q₀ lane₀ logs q lane =
     (lane ≤ k)
     × ((length logs ≡ length logs₀)
-    × (_≡_ {A = Settled} (record { logs = logs; rack = q }) (settleLanes size rack logs₀ q₀ lane)))
+    × (_≡_ {A = Settled} (record { logs = logsOf logs; rack = q }) (settleLanes size rack (logsOf logs₀) q₀ lane)))
 
 abbrev μ-loop : tie.MeasureT-loop
 μ-loop logs₀ size rack k q₀ lane₀ logs q lane = k - lane
@@ -34,7 +35,7 @@ settle-lane-requires c κs =
       lane-there = c .before .loop-test .taken;
       room =
           subst (λ (x : Settled). laneLog (a .size) (a .rack) (x .logs) (x .rack) (loop .lane) .length ≤ a .size .rounds) (sym (loop .inv .1 .1))
-          (fits-in-turn (a .size) (a .rack) (a .logs .now) (a .r) (p .room) (loop .lane) (c .before .loop-test .taken));
+          (fits-in-turn (a .size) (a .rack) (logsOf (a .logs .now)) (a .r) (p .room) (loop .lane) (c .before .loop-test .taken));
     }
 
 again : tie.Need-loop-again Inv-loop μ-loop

@@ -2,6 +2,7 @@
 use Prim.Native.Nat.{_≤_}
 use native.Mathlib.Omega.{arith}
 use borrow.Author.Needs.{needs}
+use Rattle.model.specs.InUse.{logsOf}
 use Rattle.logs.proofs.Length.{length-most}
 use Rattle.settle.specs.Append.{logAt}
 use Rattle.settle.proofs.Lane.{grown-most, settled-length}
@@ -11,7 +12,7 @@ use Rattle.settle.proofs.settled_length.Tie as tie
 short : (c : tie.After-length-from) → c .length-from .result ≤ 64
 short c =
     let a = c .before .before .args in
-    omega (arith, length-most (a .logs .now) (a .start) (a .rounds))
+    omega (arith, length-most (logsOf (a .logs .now)) (a .start) (a .rounds))
 
 grown-if-requires-2 : tie.Need-grown-if-requires-2
 grown-if-requires-2 c κs =
@@ -23,7 +24,7 @@ returns : tie.Need-returns
 returns c =
     let length = c .before .before .before .before in
     let a = length .before .before .args in
-    rw (settled-length (logAt (a .logs .now) (a .start) (a .rounds)) (a .result) (a .news), c .grown-if2 .ensures, c .before .is-due .ensures)
+    rw (settled-length (logAt (logsOf (a .logs .now)) (a .start) (a .rounds)) (a .result) (a .news), c .grown-if2 .ensures, c .before .is-due .ensures)
     (rw (c .before .before .grown-if .ensures, c .before .before .before .is-missed .ensures, length .length-from .ensures))
 
 pub settled-length-spec : {M : Type 1} → statement M
