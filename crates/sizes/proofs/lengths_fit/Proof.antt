@@ -31,7 +31,7 @@ returns-2 : tie.Need-returns-2
 unfolding lengthsFit cellRecords logRecords decisionsLength
 returns-2 c =
     let all = records (c .before .before .before .before .args .size) in
-    let e : 24 * all ≡ 8 * (3 * all) = omega arith in
+    let e : 8 * (3 * all) ≡ 24 * all = omega arith in
     rw (fine (c .before .before), c .before .records .ensures, e)
 
 pub lengths-fit-spec : {M : Type 1} → statement M
