@@ -1,4 +1,5 @@
-/* Plays document 01's sheet example, one rack, one lane, one round, and prints its log as the sheet does; then tries a seventh turn. */
+/* Plays document 01's sheet example, one rack, one lane, one round, and prints its log as the sheet does; then tries a seventh turn, tests
+   the tables, and compares the log with two that other panels show. So each call of night.h is made once. */
 #include <stdio.h>
 #include <stdlib.h>
 
@@ -51,6 +52,13 @@ static void print_log(const struct night_racks *racks, size_t rack, size_t lane)
     }
 }
 
+/* With one rack and one lane the log table is the log. */
+static void print_compared(const char *shown, const uint8_t *other, size_t other_length) {
+    uint8_t agree = night_agree(logs, sizeof logs, other, other_length);
+    struct night_longer longer = night_longer(logs, sizeof logs, other, other_length);
+    printf("%s: agree %u which %u length %zu\n", shown, agree, longer.which, longer.length);
+}
+
 int main(void) {
     /* rack 0, lane 0, code 17 with the low byte first */
     static const uint8_t cue[4] = {0, 0, 17, 0};
@@ -76,5 +84,12 @@ int main(void) {
         return EXIT_FAILURE;
     }
     printf("refused %d %u\n", TURNS, reply.number);
+
+    /* a refused turn leaves everything, so that the tables are sound and the log is as it was */
+    printf("sound %u\n", night_sound(N, K, R, cells, sizeof cells, logs, sizeof logs, decisions, sizeof decisions, reply.racks));
+    static const uint8_t one_more[4] = {0, 1, 0, 2};
+    static const uint8_t another[2] = {1, 1};
+    print_compared("one cue more", one_more, sizeof one_more);
+    print_compared("another cue", another, sizeof another);
     return EXIT_SUCCESS;
 }

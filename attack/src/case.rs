@@ -137,13 +137,13 @@ impl Case<'_> {
 
     /// One table: the soundness test, turns with these records, and log queries.
     fn table(&mut self, sort: Sort, tables: &Tables, records: &[Vec<u8>]) {
-        self.tally.table(sort, tables);
+        self.tally.table(sort);
         let before = self.outcome.differences.len();
         let verdict = judge::sound(tables).and_then(|number| not_sound(sort, tables, number));
         if let Some(number) = self.hold(Some(sort), verdict) {
             self.tally.reply(Call::Sound, number);
             if number == 0 {
-                self.tally.sound(sort);
+                self.tally.sound(sort, tables);
             }
         }
         for record in records {

@@ -3,7 +3,8 @@
 use std::fmt::{self, Display};
 
 use second::rack::RACK_LENGTH;
-use second::sizes::{Sizes, MOST_LANES, MOST_RACKS, MOST_ROUNDS};
+use second::seen::{never, SizesSeen};
+use second::sizes::Sizes;
 use second::step::Step;
 
 use crate::card::{FIRST, NEITHER, SECOND};
@@ -124,31 +125,14 @@ const STEPS: [&str; 7] = [
     "last of a round",
 ];
 
-#[derive(Clone, Debug)]
+#[derive(Clone, Debug, Default)]
 pub struct Tally {
     tables: [u64; Sort::ALL.len()],
     sound: [u64; Sort::ALL.len()],
     replies: [[u64; NUMBERS]; Call::ALL.len()],
     taken: [u64; STEPS.len()],
-    racks: [u64; MOST_RACKS + 1],
-    lanes: [u64; MOST_LANES + 1],
-    rounds: [u64; MOST_ROUNDS + 1],
+    sizes: SizesSeen,
     record_lengths: [u64; 9],
-}
-
-impl Default for Tally {
-    fn default() -> Tally {
-        Tally {
-            tables: [0; Sort::ALL.len()],
-            sound: [0; Sort::ALL.len()],
-            replies: [[0; NUMBERS]; Call::ALL.len()],
-            taken: [0; STEPS.len()],
-            racks: [0; MOST_RACKS + 1],
-            lanes: [0; MOST_LANES + 1],
-            rounds: [0; MOST_ROUNDS + 1],
-            record_lengths: [0; 9],
-        }
-    }
 }
 
 impl Tally {
@@ -157,18 +141,17 @@ impl Tally {
         self.tables.iter().sum()
     }
 
-    pub fn table(&mut self, sort: Sort, tables: &Tables) {
+    pub fn table(&mut self, sort: Sort) {
         self.tables[sort as usize] += 1;
-        let [n, k, rounds] = wide(tables.sizes);
-        if let Ok(sizes) = Sizes::new(n, k, rounds) {
-            self.racks[sizes.racks()] += 1;
-            self.lanes[sizes.lanes()] += 1;
-            self.rounds[sizes.rounds()] += 1;
-        }
     }
 
-    pub fn sound(&mut self, sort: Sort) {
+    /// A table that was found sound, so its sizes are those of its lengths.
+    pub fn sound(&mut self, sort: Sort, tables: &Tables) {
         self.sound[sort as usize] += 1;
+        let [n, k, rounds] = wide(tables.sizes);
+        if let Ok(sizes) = Sizes::new(n, k, rounds) {
+            self.sizes.add(sizes);
+        }
     }
 
     pub fn reply(&mut self, call: Call, number: u8) {
@@ -196,32 +179,33 @@ impl Tally {
         }
     }
 
-    /// What the run had to reach and did not.
+    /// A line for each thing that the run had to reach and did not.
     pub fn missing(&self) -> Vec<String> {
-        let mut missing = Vec::new();
+        // A short run cannot be asked for all, and is told that it is short.
         if self.tables() < LEAST_TABLES {
-            missing.push(format!("fewer than {LEAST_TABLES} tables were tried"));
+            return vec![format!("fewer than {LEAST_TABLES} tables were tried")];
         }
+        let mut missing = self.sizes.missing();
+        missing.extend(never(Sort::ALL.map(|sort| {
+            let what = format!("a table of the sort: {}", sort.name());
+            (what, self.tables[sort as usize])
+        })));
         for call in Call::ALL {
-            for number in call.numbers() {
-                if self.replies[call as usize][*number] == 0 {
-                    missing.push(format!("no {} was answered {number}", call.name()));
-                }
-            }
+            let counts = &self.replies[call as usize];
+            missing.extend(never(call.numbers().iter().map(|number| {
+                let what = format!("{} answered {number}", call.name());
+                (what, counts[*number])
+            })));
         }
-        let counts = [
-            ("tables", self.tables.as_slice()),
-            ("taken turns of a kind", &self.taken),
-            ("tables of a number of racks", &self.racks[1..]),
-            ("tables of a number of lanes", &self.lanes[1..]),
-            ("tables of a number of rounds", &self.rounds[1..]),
-            ("records of a length", &self.record_lengths),
-        ];
-        for (what, counts) in counts {
-            if counts.contains(&0) {
-                missing.push(format!("some {what} are missing"));
-            }
-        }
+        let taken = STEPS.iter().zip(self.taken);
+        missing.extend(never(
+            taken.map(|(name, count)| (format!("a taken turn: {name}"), count)),
+        ));
+        let lengths = self.record_lengths.iter().enumerate();
+        missing.extend(never(lengths.map(|(length, count)| {
+            let what = format!("a turn record of {length} bytes");
+            (what, *count)
+        })));
         missing
     }
 }
@@ -262,8 +246,103 @@ impl Display for Tally {
         }
         writeln!(out, " all {}", self.taken.iter().sum::<u64>())?;
         writeln!(out, "records of 0 to 8 bytes: {:?}", self.record_lengths)?;
-        writeln!(out, "tables of 1 to 8 racks: {:?}", &self.racks[1..])?;
-        writeln!(out, "tables of 1 to 4 lanes: {:?}", &self.lanes[1..])?;
-        writeln!(out, "tables of 1 to 64 rounds: {:?}", &self.rounds[1..])
+        write!(out, "{}", self.sizes.table("sound tables"))
+    }
+}
+
+#[cfg(test)]
+mod tests {
+    use super::*;
+
+    /// A tally in which every thing came up, each sort of table often enough.
+    fn whole() -> Tally {
+        let mut tally = Tally {
+            tables: [LEAST_TABLES; Sort::ALL.len()],
+            taken: [1; STEPS.len()],
+            record_lengths: [1; 9],
+            ..Tally::default()
+        };
+        for call in Call::ALL {
+            for number in call.numbers() {
+                tally.replies[call as usize][*number] = 1;
+            }
+        }
+        tally.sizes = sizes_but(|_| false);
+        tally
+    }
+
+    /// All sizes but some, in turn.
+    fn sizes_but(is_left_out: impl Fn([u64; 3]) -> bool) -> SizesSeen {
+        let mut seen = SizesSeen::default();
+        for index in 0..512 {
+            let sizes = [1 + index % 8, 1 + index / 8 % 4, 1 + index / 8 % 64];
+            if !is_left_out(sizes) {
+                let [n, k, rounds] = sizes;
+                seen.add(Sizes::new(n, k, rounds).expect("sizes in range"));
+            }
+        }
+        seen
+    }
+
+    /// What is told of a run in which one thing never came up.
+    fn gap(spoil: impl FnOnce(&mut Tally)) -> Vec<String> {
+        let mut tally = whole();
+        spoil(&mut tally);
+        tally.missing()
+    }
+
+    #[test]
+    fn nothing_is_missing_where_all_came_up() {
+        assert_eq!(whole().missing(), Vec::<String>::new());
+    }
+
+    #[test]
+    fn every_number_of_every_call_is_asked_for() {
+        for call in Call::ALL {
+            for number in call.numbers() {
+                let told = gap(|tally| tally.replies[call as usize][*number] = 0);
+                let expected = format!("never came up: {} answered {number}", call.name());
+                assert_eq!(told, [expected]);
+            }
+        }
+    }
+
+    #[test]
+    fn every_sort_of_table_is_asked_for() {
+        for sort in Sort::ALL {
+            let told = gap(|tally| tally.tables[sort as usize] = 0);
+            let expected = format!("never came up: a table of the sort: {}", sort.name());
+            assert_eq!(told, [expected]);
+        }
+    }
+
+    #[test]
+    fn every_size_and_pair_is_asked_for() {
+        let told = gap(|tally| tally.sizes = sizes_but(|[_, _, rounds]| rounds == 37));
+        assert_eq!(told, ["never came up: R = 37"]);
+        let told = gap(|tally| tally.sizes = sizes_but(|[n, k, _]| (n, k) == (3, 2)));
+        assert_eq!(told, ["never came up: n = 3 with k = 2"]);
+        let told = gap(|tally| tally.sizes = sizes_but(|[n, _, _]| n == 8));
+        assert_eq!(told[0], "never came up: n = 8");
+    }
+
+    #[test]
+    fn every_step_and_record_length_is_asked_for() {
+        for (step, name) in STEPS.iter().enumerate() {
+            let told = gap(|tally| tally.taken[step] = 0);
+            assert_eq!(told, [format!("never came up: a taken turn: {name}")]);
+        }
+        for length in 0..9 {
+            let told = gap(|tally| tally.record_lengths[length] = 0);
+            let expected = format!("never came up: a turn record of {length} bytes");
+            assert_eq!(told, [expected]);
+        }
+    }
+
+    #[test]
+    fn too_few_tables_are_told() {
+        let told = gap(|tally| tally.tables = [1; Sort::ALL.len()]);
+        assert_eq!(told, ["fewer than 200000 tables were tried"]);
+        assert_eq!(Tally::default().missing(), told);
     }
 }

@@ -15,8 +15,23 @@ pub const PIECE: usize = 1 << 16;
 /// An open file of a night, or nothing in place of a missing one.
 pub type NightFile = BufReader<Box<dyn Read>>;
 
+/// Opens the three files of a night's folder, size, cues and turns, so that an unreadable one
+/// leaves nothing half printed; a folder that is not there is no night.
+pub fn open_night(folder: &Path) -> io::Result<[NightFile; 3]> {
+    let metadata = fs::metadata(folder).map_err(|error| with_path(folder, error))?;
+    if !metadata.is_dir() {
+        let error = io::Error::new(ErrorKind::InvalidInput, "not a folder");
+        return Err(with_path(folder, error));
+    }
+    Ok([
+        open(folder, SIZE)?,
+        open(folder, CUES)?,
+        open(folder, TURNS)?,
+    ])
+}
+
 /// Opens one file of a night and reads its first piece, so that a folder fails here too.
-pub fn open(folder: &Path, name: &str) -> io::Result<NightFile> {
+fn open(folder: &Path, name: &str) -> io::Result<NightFile> {
     let source: Box<dyn Read> = match open_named(&folder.join(name)) {
         Ok(file) => Box::new(file),
         Err(error) if error.kind() == ErrorKind::NotFound => Box::new(io::empty()),
@@ -54,15 +69,16 @@ pub enum EmptyFile {
 
 impl NightFiles {
     pub fn read(folder: &Path) -> io::Result<NightFiles> {
-        let whole = |name| -> io::Result<Vec<u8>> {
+        let whole = |mut file: NightFile| -> io::Result<Vec<u8>> {
             let mut bytes = Vec::new();
-            open(folder, name)?.read_to_end(&mut bytes)?;
+            file.read_to_end(&mut bytes)?;
             Ok(bytes)
         };
+        let [size, cues, turns] = open_night(folder)?;
         Ok(NightFiles {
-            size: whole(SIZE)?,
-            cues: whole(CUES)?,
-            turns: whole(TURNS)?,
+            size: whole(size)?,
+            cues: whole(cues)?,
+            turns: whole(turns)?,
         })
     }
 

@@ -19,6 +19,7 @@ pub mod random;
 pub mod records;
 pub mod refusal;
 pub mod scratch;
+pub mod seen;
 pub mod settle;
 pub mod sheet;
 pub mod sizes;

@@ -1,5 +1,5 @@
-//! The commands of the second program: bad input ends it with one line and exit status 1,
-//! wrong usage with exit status 2.
+//! The commands of the second program: bad input ends it with one line and exit status 1, wrong
+//! usage with the usage and exit status 2; a comparison that failed has told so, with status 1.
 
 use std::env;
 use std::ffi::{OsStr, OsString};
@@ -17,9 +17,11 @@ use second::maker::{make_night, make_nights};
 use second::sheet::sheet_of_folder;
 use second::text::{pack, show_folder};
 
+/// With a whole cycle of made nights or more, 512, what never came up in them is a failure.
 const USAGE: &str = "usage: second sheet [FOLDER] | check-turns [FILE] | make SEED FOLDER [COUNT] \
                      | pack TEXT FOLDER | show FOLDER | compare NIGHTS \
-                     | hold PROGRAM NIGHTS SEED COUNT | bench SHEET NIGHT [TURNS]";
+                     | hold PROGRAM NIGHTS SEED COUNT (from COUNT 512 on, all must come up) \
+                     | bench SHEET NIGHT [TURNS]";
 
 fn main() -> ExitCode {
     let arguments: Vec<OsString> = env::args_os().skip(1).collect();

@@ -6,7 +6,7 @@ use std::io::{self, BufReader, Read, Write};
 use std::path::Path;
 
 use crate::cues::CueLists;
-use crate::files::{open, CUES, SIZE, TURNS};
+use crate::files::open_night;
 use crate::logs::entries;
 use crate::night::Night;
 use crate::records::Records;
@@ -15,12 +15,7 @@ use crate::sound::SoundNight;
 
 /// Prints the sheet of the three files in a folder.
 pub fn sheet_of_folder(folder: &Path, out: &mut impl Write) -> io::Result<()> {
-    // All three are opened first, so that an unreadable one leaves nothing half printed.
-    let (size, cues, turns) = (
-        open(folder, SIZE)?,
-        open(folder, CUES)?,
-        open(folder, TURNS)?,
-    );
+    let [size, cues, turns] = open_night(folder)?;
     sheet(size, cues, turns, out)
 }
 

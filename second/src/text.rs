@@ -18,7 +18,7 @@ use std::fmt::{self, Display};
 use std::io::{self, BufReader, Read, Write};
 use std::path::Path;
 
-use crate::files::{open, NightFiles, CUES, SIZE, TURNS};
+use crate::files::{open_night, NightFiles, CUES, SIZE, TURNS};
 use crate::records::{Records, RECORD};
 
 /// No packed file is longer than this.
@@ -204,11 +204,7 @@ fn bytes(words: &[&str]) -> Result<Vec<u8>, String> {
 
 /// Prints the text of the three files in a folder.
 pub fn show_folder(folder: &Path, out: &mut impl Write) -> io::Result<()> {
-    let (size, cues, turns) = (
-        open(folder, SIZE)?,
-        open(folder, CUES)?,
-        open(folder, TURNS)?,
-    );
+    let [size, cues, turns] = open_night(folder)?;
     show(size, cues, turns, out)
 }
 

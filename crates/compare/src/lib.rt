@@ -32,8 +32,7 @@ pub fn agree(a: &[u8], b: &[u8]) -> bool
 
 // "A second call hands back the longer log itself, the first if equal, and an empty part of the first if they don't agree."
 pub fn longer<'a>(a: &'a [u8], b: &'a [u8]) -> &'a [u8]
-    ensures bytes { λ r. ⌜ now r ≡ longer (now (a .entry)) (now (b .entry)) ⌝ }
-    ensures itself { λ r. ⌜ r ≡ longerItself (a .entry) (b .entry) (r .name) ⌝ }
+    ensures { λ r. ⌜ (now r ≡ longer (now (a .entry)) (now (b .entry))) × (r ≡ longerItself (a .entry) (b .entry) (r .name)) ⌝ }
 {
     let agreeing = agree(a, b);
     if agreeing {

@@ -4,9 +4,10 @@ ghost use mathlib.Core.List.{[], _∷_};
 ghost use Prim.Native.Nat.{_+_, _*_, _≤_, _<_, _^_};
 ghost use lib.ListN.{length};
 ghost use lib.Seq.{sets};
-ghost use Rattle.model.specs.Cues.{listsFit, listStart, codeAt, codeIn, codeOf, addCue};
+ghost use Rattle.model.specs.Cues.{listsFit, listStart, codeAt, codeIn, codeNumber, codeValue, coded, codeOf, addCue};
 ghost use Rattle.cues.specs.Adding.{outOfRange, Placed, listCue};
 use model::Code;
+use model::logs;
 
 // "at most 64 each"
 const MOST: usize = 64;
@@ -83,7 +84,8 @@ pub fn code_of(
     lane: usize,
     number: usize,
 ) -> Code
-    ensures { λ r. ⌜ r ≡ codeOf racks lanes (now (lists .entry)) rack lane number ⌝ }
+    ensures { λ r. ⌜ (record { number = codeNumber r; code = codeValue r } ≡ coded racks lanes (now (lists .entry)) rack lane number)
+        × (r ≡ codeOf racks lanes (now (lists .entry)) rack lane number) ⌝ }
 {
     let fit = lists_fit(racks, lanes, lists);
     if !fit {

@@ -5,9 +5,10 @@ ghost use Prim.Native.Nat.{_<_};
 ghost use lib.ListN.{length};
 ghost use Rattle.model.specs.Size.{sizeFits};
 ghost use Rattle.model.specs.InUse.{logsLength, logsOf};
-ghost use Rattle.model.specs.Logs.{isThere, logEntry};
+ghost use Rattle.model.specs.Logs.{isThere, entryNumber, entryCue, queried, logEntry};
 use model::Entry;
 use model::Size;
+use model::logs;
 
 // "log query: rack, lane or place not there": whether all are.
 fn is_there(size: Size, logs: &[u8], rack: usize, lane: usize, place: usize) -> bool
@@ -29,7 +30,8 @@ fn is_there(size: Size, logs: &[u8], rack: usize, lane: usize, place: usize) -> 
 
 // The issuer and number at a place of a log; or 1 for sizes and length, 2 for a log table that is not sound, 9 for what is not there.
 pub fn log_entry(size: Size, logs: &[u8], rack: usize, lane: usize, place: usize) -> Entry
-    ensures { λ r. ⌜ r ≡ logEntry size (logsOf (now (logs .entry))) rack lane place ⌝ }
+    ensures { λ r. ⌜ (record { number = entryNumber r; cue = entryCue r } ≡ queried size (logsOf (now (logs .entry))) rack lane place)
+        × (r ≡ logEntry size (logsOf (now (logs .entry))) rack lane place) ⌝ }
 {
     let fine = sizes::logs_fit(size, logs.len());
     if !fine {

@@ -6,3 +6,6 @@ pub mod Order
 pub mod Turns
 pub mod Place
 pub mod Ranges
+pub mod Length
+pub mod Start
+pub mod Rules

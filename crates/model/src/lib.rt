@@ -1,8 +1,10 @@
-// The card's types, all by value. What is done with them is defined in specs/, in the words of document 01; the one function here is the
-// method that settles a lane, since a method stands beside its type.
+// The card's types, all by value. What is done with them is defined in specs/, in the words of document 01. The one method settles a lane, since a
+// method stands beside its type; so the logs that it appends to stand here too.
 ghost use mathlib.Core.Path.{_≡_};
-ghost use Prim.Native.Nat.{_<_};
-ghost use Rattle.model.specs.Settle.{nextHeld, settledRack};
+ghost use Rattle.model.specs.InUse.{logsOf};
+ghost use Rattle.model.specs.Settle.{PartLent, settlePart};
+
+pub mod logs; // logs.rt: logs in a lent table
 
 // n racks, k lanes, R rounds.
 pub struct Size {
@@ -46,42 +48,43 @@ pub struct Rack {
     pub news: [Value; 4],
 }
 
-// What a lane's log says to its rack: its length, how many of its entries are the rack's own cues, and its last entry.
-pub struct LogState {
-    pub length: u8,
-    pub own: u8,
-    pub last: Cue,
-}
-
-// The value held next: the result if it has place L, otherwise the rack's own next cue.
-fn next_held(rack: u8, log: LogState, result: Cell) -> Value
-    requires { ⌜ log .own < 255 ⌝ }
-    ensures { λ v. ⌜ v ≡ nextHeld rack log result ⌝ }
-{
-    let v = result.value;
-    let last = log.last;
-    if v.place == log.length {
-        return v;
-    }
-    Value {
-        place: log.length,
-        cue: Cue {
-            issuer: rack,
-            number: 1 + log.own,
-        },
-        previous: last,
-    }
-}
-
 impl Rack {
-    // One lane settled, with what its log says after it was appended to.
-    pub fn settle(mut self, lane: usize, rack: u8, log: LogState) -> Rack
-        requires { ⌜ (lane < 4) × (log .own < 255) ⌝ }
-        ensures { λ r. ⌜ r ≡ settledRack self lane rack log ⌝ }
+    // One lane settled: its log is lent and appended to, and the rack comes back with what it holds next.
+    pub fn settle(mut self, log: &mut [u8], lane: usize, rack: u8) -> Rack
+        requires { ⌜ PartLent (logsOf (now log)) self lane ⌝ }
+        ensures { λ q. ⌜ record { logs = logsOf (now (log .exit)); rack = q } ≡ settlePart (logsOf (now (log .entry))) self lane rack ⌝ }
     {
+        let news = self.news[lane];
         let result = self.results[lane];
-        let v = next_held(rack, log, result);
-        self.held[lane] = v;
+        let value = result.value;
+        let place = value.place as usize;
+        // "L is the log length as it then stands"
+        let mut length = logs::length_from(log, 0, log.len() / 2);
+        // "1. if the news has place L + 1, append its previous cue;"
+        if (news.place as usize) == length + 1 {
+            logs::store(log, length, news.previous);
+            length += 1;
+        }
+        // "2. if the result is committed and has place L, append its cue;"
+        if (result.mark == 3) & (place == length) {
+            logs::store(log, length, value.cue);
+            length += 1;
+        }
+        // "3. if the result has place L, hold it; otherwise hold the rack's own next cue"
+        if place == length {
+            self.held[lane] = value;
+        } else {
+            let own = logs::own_cues(log, 0, rack, length);
+            let last = logs::last_entry(log, 0, length);
+            self.held[lane] = Value {
+                place: length as u8,
+                cue: Cue {
+                    issuer: rack,
+                    number: 1 + own,
+                },
+                previous: last,
+            };
+        }
         self
     }
 }

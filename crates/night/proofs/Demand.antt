@@ -2,6 +2,7 @@ pub mod Tied
 pub mod Reached
 pub mod Begins
 pub mod Numbers
+pub mod Told
 pub mod DemandThree
 pub mod Admitted
 pub mod Marks
@@ -12,4 +13,6 @@ pub mod Unrefused
 pub mod Ended
 pub mod Found
 pub mod AdoptCommit
+pub mod Answered
+pub mod VectorConsensus
 pub mod Demands

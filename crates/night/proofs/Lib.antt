@@ -3,3 +3,5 @@ pub mod Refuted
 pub mod RightRules
 pub mod View
 pub mod Demand
+pub mod Alike
+pub mod Determined

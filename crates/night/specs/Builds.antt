@@ -1,21 +1,18 @@
 -- Builds that do not do the job: the useless ones, and the errors that look right.
 use mathlib.Core.List.{List}
-use mathlib.Core.Bool.{true, false, cond, not}
-use Prim.Native.Nat.{ℕ, suc}
-use lib.Dec.{ltb}
+use mathlib.Core.Bool.{true, false, cond, not, _&&_}
+use Prim.Native.Nat.{ℕ, suc, _-_, _/_}
+use lib.Dec.{eqb, ltb}
 use lib.ListN.{set}
 use Rattle.model.specs.declared.Size.{Size}
-use Rattle.model.specs.Record.{isCommitted}
-use Rattle.model.specs.Table.{Card, rackAt}
-use Rattle.model.specs.Step.{advanced, endingRound, isLast}
+use Rattle.model.specs.declared.Entry.the-variants.{Refused}
+use Rattle.model.specs.Record.{sameCell, isCommitted}
+use Rattle.model.specs.Table.{Card, offers, cellNow, decisionAt, rackAt}
+use Rattle.model.specs.Step.{advanced, endingRound, isLast, step}
 use Rattle.model.specs.Kind.{laneOf}
-use Rattle.model.specs.Turn.{Outcome, rackOf, turned}
-use Rattle.night.specs.Machine.{Machine, card}
-use Rattle.night.specs.Rules.{Rules, rules01}
-
--- a build that turns so, and is the card else
-abbrev pub turning : (Size → Card → List ℕ → Outcome) → Machine
-turning turn = record { fresh = card .fresh; turn = turn; finished = card .finished; length = card .length }
+use Rattle.model.specs.Turn.{Outcome, rackOf, laneNamed, sourceNamed, turned}
+use Rattle.night.specs.Machine.{Machine, card, turning, telling}
+use Rattle.night.specs.Rules.{Rules, rules01, turnWith}
 
 -- "One that refuses each turn"
 abbrev pub refusesAll : Machine
@@ -27,7 +24,7 @@ doesNothing = turning (λ s c turn. record { number = 0; card = c })
 
 -- "One with constant empty logs"
 abbrev pub emptyLogs : Machine
-emptyLogs = record { fresh = card .fresh; turn = card .turn; finished = card .finished; length = λ s c rack lane. 0 }
+emptyLogs = telling (card .finished) (λ s c rack lane. 0) (λ s c rack lane place. Refused 9)
 
 -- "One that works in round 1 and then idles": it goes on counting
 unfoldable pub idle : Size → Card → ℕ → Outcome
@@ -49,10 +46,28 @@ abbrev pub inventsTaken : Machine
 inventsTaken = turning (λ s c turn. record { number = 0; card = turned s c turn .card })
 
 abbrev pub inventsFinished : Machine
-inventsFinished = record { fresh = card .fresh; turn = card .turn; finished = λ s c rack. suc (card .finished s c rack); length = card .length }
+inventsFinished = telling (λ s c rack. suc (card .finished s c rack)) (card .length) (card .entry)
 
 abbrev pub inventsLength : Machine
-inventsLength = record { fresh = card .fresh; turn = card .turn; finished = card .finished; length = λ s c rack lane. suc (card .length s c rack lane) }
+inventsLength = telling (card .finished) (λ s c rack lane. suc (card .length s c rack lane)) (card .entry)
+
+-- what a log query says is in the list as well: the first entry for every place
+abbrev pub inventsEntry : Machine
+inventsEntry = telling (card .finished) (card .length) (λ s c rack lane place. card .entry s c rack lane 0)
+
+-- and one that hides them: a turn that it takes is told as refused
+abbrev pub hidesTaken : Machine
+hidesTaken = turning (λ s c turn. record { number = 4; card = turned s c turn .card })
+
+abbrev pub hidesFinished : Machine
+hidesFinished = telling (λ s c rack. card .finished s c rack - 1) (card .length) (card .entry)
+
+-- no more than demand 3's lower bound asks for
+abbrev pub hidesLength : Machine
+hidesLength = telling (card .finished) (λ s c rack lane. card .finished s c rack / 2) (card .entry)
+
+abbrev pub hidesEntry : Machine
+hidesEntry = telling (card .finished) (card .length) (λ s c rack lane place. Refused 9)
 
 -- "Running a committed value without comparing its place with the log"
 abbrev pub withoutPlace : Rules
@@ -78,3 +93,17 @@ risingOrder =
 abbrev pub heldAgain : Rules
 heldAgain =
     record { lane = laneOf; teller = rules01 .teller; compared = rules01 .compared; placed = true; again = λ c. not (isCommitted c) }
+
+-- "a second source is refused even if its value is equal": it takes one
+unfoldable pub takingEqual : Size → Card → List ℕ → Outcome
+takingEqual s c turn =
+    let r = rackAt (c .racks) (rackOf turn) in
+    let lane = laneNamed turn in
+    let decided = cellNow s (c .tables .cells) r offers lane (decisionAt s (c .tables .decisions) (r .round) lane) in
+    let named = cellNow s (c .tables .cells) r offers lane (sourceNamed turn) in
+    let work = turnWith rules01 s c turn in
+    let second : Outcome = record { number = 0; card = step s c (rackOf turn) lane (sourceNamed turn) } in
+    cond (eqb (work .number) 7 && sameCell named decided) second work
+
+abbrev pub secondSource : Machine
+secondSource = turning takingEqual

@@ -8,20 +8,22 @@ use lib.Dec.{ltb, eqb}
 use Rattle.model.specs.declared.Size.{Size}
 use Rattle.model.specs.declared.Value.{Value}
 use Rattle.model.specs.declared.Cell.{Cell}
+use Rattle.model.specs.declared.Rack.{Rack}
 use Rattle.model.specs.declared.Kind.the-variants.{SecondRead}
+use Rattle.model.specs.declared.Entry.the-variants.{Found, Refused}
 use Rattle.model.specs.Size.{sizeFits, blockSteps, roundSteps}
-use Rattle.model.specs.Record.{noCell, offered, isEmpty, isCommitted}
-use Rattle.model.specs.Table.{Card, offers, firstCells, readCell, undecided, decisionAt, rackAt, resultAt, newsAt}
+use Rattle.model.specs.Record.{noCell, offered, isEmpty, isCommitted, Cells}
+use Rattle.model.specs.Table.{Card, offers, firstCells, readCell, logLength, undecided, decisionAt, rackAt, resultAt, newsAt}
 use Rattle.model.specs.Kind.{kindOf, placeAt, laneAt, secondRead, stepsIn}
 use Rattle.model.specs.Step.{afterSecondRead}
-use Rattle.model.specs.Turn.{rackOf, turned}
+use Rattle.model.specs.Turn.{rackOf, laneNamed, sourceNamed, turned}
 use Rattle.model.specs.Fresh.{freshCard}
-use Rattle.model.specs.Logs.{oneBegins}
+use Rattle.model.specs.Logs.{oneBegins, isThere}
 use Rattle.night.specs.Machine.{Machine, reached, taken, logBytes, entryOf, cuesOf, entriesIn}
 
 module _ (M : Machine) (s : Size) (turns : List (List ℕ)) where
-  -- in one of the turns a rack takes its last read in a lane of a round, and these are the result and the news that it gives
-  pub record Ends (rack round lane : ℕ) (result : Cell) (news : Value) : Type 0 where
+  -- one of the turns, which a rack takes in a round
+  pub record Takes (rack round : ℕ) : Type 0 where
     pub before : List (List ℕ)
     pub turn : List ℕ
     pub later : List (List ℕ)
@@ -29,11 +31,23 @@ module _ (M : Machine) (s : Size) (turns : List (List ℕ)) where
     pub is-taken : M .turn s (reached M s before) turn .number ≡ 0
     pub of-rack : rackOf turn ≡ rack
     pub in-round : rackAt (reached M s before .racks) rack .round ≡ round
-    pub in-lane : laneAt s (rackAt (reached M s before .racks) rack) ≡ lane
-    pub reads : kindOf s (rackAt (reached M s before .racks) rack .step) ≡ SecondRead
-    pub last : suc (secondRead s (placeAt s (rackAt (reached M s before .racks) rack .step))) ≡ s .racks
-    pub gives-result : resultAt (afterSecondRead s (reached M s before .tables .cells) rack (rackAt (reached M s before .racks) rack)) lane ≡ result
-    pub gives-news : newsAt (afterSecondRead s (reached M s before .tables .cells) rack (rackAt (reached M s before .racks) rack)) lane ≡ news
+
+  -- the cells and the rack before that turn
+  module _ {rack round : ℕ} (at : Takes rack round) where
+    abbrev pub cellsThen : Cells
+    cellsThen = reached M s (at .before) .tables .cells
+
+    abbrev pub rackThen : Rack
+    rackThen = rackAt (reached M s (at .before) .racks) rack
+
+  -- a rack takes its last read in a lane of a round, and these are the result and the news that it gives
+  pub record Ends (rack round lane : ℕ) (result : Cell) (news : Value) : Type 0 where
+    pub at : Takes rack round
+    pub in-lane : laneAt s (rackThen at) ≡ lane
+    pub reads : kindOf s (rackThen at .step) ≡ SecondRead
+    pub last : suc (secondRead s (placeAt s (rackThen at .step))) ≡ s .racks
+    pub gives-result : resultAt (afterSecondRead s (cellsThen at) rack (rackThen at)) lane ≡ result
+    pub gives-news : newsAt (afterSecondRead s (cellsThen at) rack (rackThen at)) lane ≡ news
 
   -- how many steps a rack has taken in a lane of a round
   abbrev pub stepsTaken : ℕ → ℕ → ℕ → ℕ
@@ -60,6 +74,35 @@ module _ (M : Machine) (s : Size) (turns : List (List ℕ)) where
     -- a rack that has taken its 2n + 2 steps has a result
     pub progress : (rack : ℕ) → rack < s .racks → stepsTaken rack round lane ≡ blockSteps s
         → (result : Cell) × (news : Value) × Ends rack round lane result news
+
+  -- a rack takes its answer in a round, "the turn names lane m and source q"
+  pub record Answers (rack round lane source : ℕ) : Type 0 where
+    pub at : Takes rack round
+    pub answers : rackThen at .step ≡ 1
+    pub names-lane : laneNamed (at .turn) ≡ lane
+    pub names-source : sourceNamed (at .turn) ≡ source
+
+  -- what that source had offered there
+  module _ {rack round lane source : ℕ} (a : Answers rack round lane source) where
+    abbrev pub offerThen : Cell
+    offerThen = readCell s (cellsThen (a .at)) offers round lane source
+
+  -- "k-vector consensus", of the answers that name one lane in a round
+  pub record VectorConsensus (round lane : ℕ) : Type 0 where
+    -- "a reply names one lane": a rack wins no other in that round
+    pub one-lane : (rack lane′ source source′ : ℕ) → Answers rack round lane source → Answers rack round lane′ source′ → lane′ ≡ lane
+    -- "its value was offered at that lane in that round", and stands there from then on
+    pub was-offered : (rack source : ℕ) (a : Answers rack round lane source) → isEmpty (offerThen a) ≡ false
+    pub value-stays : (rack source : ℕ) (a : Answers rack round lane source)
+        → readCell s (reached M s turns .tables .cells) offers round lane source ≡ offerThen a
+    -- "The value offered by q at m is what this rack proposes in m.": each rack with that first lane
+    pub proposed : (p q source source′ : ℕ) (a : Answers p round lane source) → Answers q round lane source′
+        → 1 ≤ stepsTaken q round lane → firstCell q round lane ≡ offerThen a
+    -- "no lane has two values"
+    pub one-value : (p q source source′ : ℕ) (a : Answers p round lane source) (b : Answers q round lane source′) → offerThen b ≡ offerThen a
+    -- "Decision (round, m) becomes q", and stays so: "a lane has one source in a round"
+    pub decided : (rack source : ℕ) → Answers rack round lane source → decisionAt s (reached M s turns .tables .decisions) round lane ≡ source
+    pub one-source : (p q source source′ : ℕ) → Answers p round lane source → Answers q round lane source′ → source′ ≡ source
 
 -- "a reply names one lane, its value was offered at that lane in that round, and no lane has two values. The arbiter is stricter: a lane has
 -- one source in a round"
@@ -88,6 +131,8 @@ module _ (M : Machine) where
         → rackAt (reached M s turns .racks) rack .round ≤ s .rounds
         → rackAt (reached M s turns .racks) rack .step ≡ 1
         → (M .turn s (reached M s turns) (rack ∷ lane ∷ source ∷ 0 ∷ []) .number ≡ 0) ↔ Fits s (reached M s turns) rack lane source
+    -- and so all that are admitted in a night fit one another
+    pub vector-consensus : (s : Size) → sizeFits s ≡ true → (turns : List (List ℕ)) (round lane : ℕ) → VectorConsensus M s turns round lane
 
   pub record Demand3 : Type 0 where
     -- "of two racks' logs of one lane, one begins with the other"
@@ -105,6 +150,14 @@ module _ (M : Machine) where
     pub entries-held : (s : Size) → sizeFits s ≡ true → (turns : List (List ℕ)) (rack : ℕ) → rack < s .racks
         → let f = M .finished s (reached M s turns) rack in
         1 ≤ f → halfUp (f - 1) ≤ entriesIn M s (reached M s turns) rack (s .lanes)
+    -- "a log's length is the number of its records before the first zero one"
+    pub lengths-counted : (s : Size) → sizeFits s ≡ true → (turns : List (List ℕ)) (rack lane : ℕ) → rack < s .racks → lane < s .lanes
+        → M .length s (reached M s turns) rack lane ≡ logLength s (reached M s turns .tables .logs) rack lane
+    -- a log query is answered with the entry that stands there, and with 9 where "rack, lane or place not there"
+    pub entries-told : (s : Size) → sizeFits s ≡ true → (turns : List (List ℕ)) (rack lane place : ℕ)
+        → M .entry s (reached M s turns) rack lane place
+        ≡ cond (isThere s (reached M s turns .tables .logs) rack lane place)
+        (Found (entryOf M s (reached M s turns) rack lane place)) (Refused 9)
 
   pub record Demands : Type 0 where
     pub demand2 : Demand2

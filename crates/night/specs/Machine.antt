@@ -7,17 +7,21 @@ use lib.ListN.{take, drop}
 use Rattle.model.specs.Form.{lengthOf}
 use Rattle.model.specs.declared.Size.{Size}
 use Rattle.model.specs.declared.Cue.{Cue}
+use Rattle.model.specs.declared.Entry.{Entry}
 use Rattle.model.specs.Record.{entryAt}
 use Rattle.model.specs.Table.{Card, logStart, logLength, rackAt}
 use Rattle.model.specs.Turn.{Outcome, rackOf, turned}
 use Rattle.model.specs.Fresh.{freshCard}
+use Rattle.model.specs.Logs.{logEntry}
 
--- what it starts from, what a turn does, and what it says of a card: the rounds that a rack has finished, and a log's length
+-- what it starts from, what a turn does, and what it tells of a card: the rounds that a rack has finished, a log's length, and what a log query
+-- is answered for a rack, a lane and a place
 pub record Machine : Type 0 where
   pub fresh : Size → Card
   pub turn : Size → Card → List ℕ → Outcome
   pub finished : Size → Card → ℕ → ℕ
   pub length : Size → Card → ℕ → ℕ → ℕ
+  pub entry : Size → Card → ℕ → ℕ → ℕ → Entry
 
 -- the card of document 01
 abbrev pub card : Machine
@@ -27,7 +31,16 @@ card =
       turn = turned;
       finished = λ s c rack. rackAt (c .racks) rack .round - 1;
       length = λ s c rack lane. logLength s (c .tables .logs) rack lane;
+      entry = λ s c rack lane place. logEntry s (c .tables .logs) rack lane place;
     }
+
+-- a machine that turns so, and is the card else
+abbrev pub turning : (Size → Card → List ℕ → Outcome) → Machine
+turning turn = record { fresh = card .fresh; turn = turn; finished = card .finished; length = card .length; entry = card .entry }
+
+-- a machine that turns as the card does, and tells so much of what it has reached
+abbrev pub telling : (Size → Card → ℕ → ℕ) → (Size → Card → ℕ → ℕ → ℕ) → (Size → Card → ℕ → ℕ → ℕ → Entry) → Machine
+telling finished length entry = record { fresh = card .fresh; turn = card .turn; finished = finished; length = length; entry = entry }
 
 module _ (M : Machine) (s : Size) where
   -- the card after a list of turns, oldest first

@@ -3,7 +3,7 @@ use mathlib.Core.List.{List, [], _∷_, _++_}
 use Prim.Native.Nat.{ℕ}
 use lib.ListN.{replicate}
 use Rattle.model.specs.declared.Size.{Size}
-use Rattle.night.specs.Rows.{sized, turn, answer, begun, bothFirst}
+use Rattle.night.specs.Rows.{sized, turn, answer, begun, P10}
 
 -- so many turns of a rack that are no answers
 abbrev pub turns : ℕ → ℕ → List (List ℕ)
@@ -23,9 +23,9 @@ round = begun 0 0 0 4
 abbrev pub pair : ℕ → Size
 pair R = sized 2 2 R
 
--- P10's night: rack 1 does round 2 first, rack 0 names its source, and commits 0#1 again in lane 0
+-- P10's night, whole: rack 1 does round 2 first; rack 0 names source 0 and is refused, then source 1, and commits 0#1 again in lane 0
 abbrev pub committedAgain : List (List ℕ)
-committedAgain = bothFirst ++ (begun 1 0 1 12 ++ begun 0 0 1 12)
+committedAgain = P10 .turns ++ (P10 .last ∷ [])
 
 -- rack 0 adopts the older value twice and hears of the newer one only through news: after two rounds it has no entry
 abbrev pub olderValue : List (List ℕ)
@@ -49,3 +49,7 @@ runBefore =
     ++ (turns 0 4 ++ (answers 0 1 0 ++ (turns 0 13 ++ (answers 0 0 0 ++ (turns 0 9
     ++ (turns 1 6 ++ (answers 1 1 1 ++ (turns 1 13 ++ (answers 1 1 1 ++ (turns 1 1
     ++ (turns 0 4 ++ (answers 0 0 1 ++ turns 0 12)))))))))))))))))))
+
+-- rack 0 reads second cells of lane 1 only after rack 1 has written there, and so both hold 0#1: in round 2 both offer it
+abbrev pub equalOffers : List (List ℕ)
+equalOffers = begun 0 0 0 10 ++ (begun 1 1 1 12 ++ (turns 0 3 ++ turns 1 1))

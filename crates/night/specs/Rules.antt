@@ -1,7 +1,7 @@
 -- The step rules with some of them left open, so that a build can have one of them wrong.
 use mathlib.Core.List.{List}
 use mathlib.Core.Bool.{Bool, true, false, cond, not, _&&_, _||_}
-use Prim.Native.Nat.{ℕ, zero, suc, _+_, _-_}
+use Prim.Native.Nat.{ℕ, zero, suc, _+_}
 use lib.Dec.{eqb}
 use lib.ListN.{set}
 use Rattle.model.specs.declared.Size.{Size}
@@ -11,14 +11,13 @@ use Rattle.model.specs.declared.Rack.{Rack}
 use Rattle.model.specs.declared.Kind.{Kind}
 use Rattle.model.specs.declared.Kind.the-variants.{Offer, Answer, FirstWrite, FirstRead, SecondWrite, SecondRead}
 use Rattle.model.specs.Record.{offered, isCommitted, Logs}
-use Rattle.model.specs.Table.{Tables, Card, offers, firstCells, secondCells, writeCell, decisionAt, rackAt, heldAt, resultAt, newsAt, cellNow, logLength}
+use Rattle.model.specs.Table.{Tables, Card, offers, firstCells, secondCells, writeCell, decisionAt, rackAt, heldAt, resultAt, newsAt, cellNow}
 use Rattle.model.specs.Kind.{blockAt, placeAt, kindOf, laneOf, firstRead, secondRead}
 use Rattle.model.specs.Block.{secondCell, result, news}
 use Rattle.model.specs.Settle.{Log, Settled, logOf, append, stateOf, ownNext, holding}
 use Rattle.model.specs.Step.{After, advanced, gatheringFirst, gatheringSecond, endingBlock, endingRound, withCells, offersOf, answered, isLast}
 use Rattle.model.specs.Turn.{Outcome, badRecord, rackOf, laneNamed, sourceNamed, finished, misnamed, notOffered, decidedElse}
-use Rattle.model.specs.Fresh.{freshCard}
-use Rattle.night.specs.Machine.{Machine}
+use Rattle.night.specs.Machine.{Machine, turning}
 
 pub record Rules : Type 0 where
   -- the lane of a block, from the first lane
@@ -121,7 +120,7 @@ module _ (rules : Rules) (s : Size) (rack : ℕ) where
         let end = settledBy in
         cond (isLast s r) end (record { tables = t; rack = readBy })
 
-    -- its refusals: a build that has a rule wrong does not find its own tables unsound
+    -- its refusals: a build that has a rule wrong does not find its own tables unsound; with the right rules 1, 2 and 8 never come
     unfoldable pub refusalWith : ℕ → ℕ → ℕ
     refusalWith m q =
         cond (finished s r) 4
@@ -138,10 +137,4 @@ turnWith rules s c turn =
     cond (eqb number 0) stepped (record { number = number; card = c })
 
 abbrev pub buildWith : Rules → Machine
-buildWith rules =
-    record {
-      fresh = freshCard;
-      turn = turnWith rules;
-      finished = λ s c rack. rackAt (c .racks) rack .round - 1;
-      length = λ s c rack lane. logLength s (c .tables .logs) rack lane;
-    }
+buildWith rules = turning (turnWith rules)

@@ -1,120 +1,128 @@
--- Every public call's promise determines its outcome: "any two outcomes the promise admits are proved equal". A promise is an equation, so one
--- law does it for all calls; an outcome is the reply and every byte of lent storage afterwards.
+-- Every public call keeps its promise, and its promise determines the outcome. Each law takes the call's own theorem, `met`: if its contract says
+-- anything else than `Calls` does, less or more, the law is refused.
 use mathlib.Core.Path.{_≡_, sym, ap, _∙_}
 use mathlib.Core.List.{List}
-use mathlib.Core.Bool.{Bool}
 use Prim.Native.Nat.{ℕ}
+use prog.Routine.{Routine}
 use denote.Ref.{RefT, now}
-use Rattle.model.specs.Record.{Logs}
+use denote.Triple.Clauses.{Ended}
 use Rattle.laws.proofs.Cases.{either, bool}
-use Rattle.model.specs.declared.Size.{Size}
-use Rattle.model.specs.declared.Entry.{Entry}
-use Rattle.model.specs.declared.Code.{Code}
-use Rattle.model.specs.declared.Piece.{Piece}
-use Rattle.model.specs.Table.{Tables, Card}
-use Rattle.model.specs.Turn.{Outcome, turned, soundness}
-use Rattle.model.specs.Fresh.{filled}
-use Rattle.model.specs.Logs.{logEntry, agree, longer}
-use Rattle.model.specs.Cues.{Listed, addCue, codeOf}
-use Rattle.model.specs.Night.{pieceAt}
+use Rattle.model.specs.Logs.{agree}
 use Rattle.compare.specs.Itself.{longerItself}
-use Rattle.ports.specs.declared.EntryAnswer.{EntryAnswer}
-use Rattle.ports.specs.declared.LongerAnswer.{LongerAnswer}
-use Rattle.ports.specs.declared.CodeAnswer.{CodeAnswer}
-use Rattle.ports.specs.Told.{entryTold, agreeTold, longerTold, codeTold}
 use Rattle.turns.specs.declared.Turns.{Turns}
-use Rattle.turns.specs.Walk.{placeBehind}
+use Rattle.fresh.proofs.fresh.Met as fresh
+use Rattle.card.proofs.sound.Met as sound
+use Rattle.card.proofs.turn.Met as turn
+use Rattle.entry.proofs.log_entry.Met as log-entry
+use Rattle.compare.proofs.agree.Met as compare-agree
+use Rattle.compare.proofs.longer.Met as compare-longer
+use Rattle.turns.proofs.piece_at.Met as piece-at
+use Rattle.turns.proofs.place_behind.Met as place-behind
+use Rattle.turns.proofs.over.Met as over
+use Rattle.turns.proofs.next.Met as next
+use Rattle.turns.proofs.moved.Met as moved
+use Rattle.turns.proofs.behind.Met as behind
+use Rattle.turns.proofs.first.Met as first
+use Rattle.cues.proofs.add_cue.Met as add-cue
+use Rattle.cues.proofs.code_of.Met as code-of
+use Rattle.ports.proofs.night_fresh.Met as night-fresh
+use Rattle.ports.proofs.night_sound.Met as night-sound
+use Rattle.ports.proofs.night_turn.Met as night-turn
+use Rattle.ports.proofs.night_log_entry.Met as night-log-entry
+use Rattle.ports.proofs.night_agree.Met as night-agree
+use Rattle.ports.proofs.night_longer.Met as night-longer
+use Rattle.ports.proofs.night_add_cue.Met as night-add-cue
+use Rattle.ports.proofs.night_code_of.Met as night-code-of
+use Rattle.promises.specs.Promise.{Keeps, Seen, Given, Equals}
+use Rattle.promises.specs.Calls as calls
 
--- the law
-once : {O : Type 0} {promised o o′ : O} → o ≡ promised → o′ ≡ promised → o ≡ o′
-once p q = p ∙ sym q
+-- the law, for a promise that is an equation
+equals : {T : Ended} {call : Routine} {O : Type 0} {seen : Seen T O} {given : Given T O}
+    → Keeps T call (λ κs a r x. seen κs r x ≡ given κs a) → Equals T call seen given
+equals met = record { keeps = met; once = λ κs a r r′ x x′ p q. p ∙ sym q }
 
--- fresh: the reply, the racks, and the three tables
-pub fresh-once : (s : Size) (t : Tables) (o o′ : Outcome) → o ≡ filled s t → o′ ≡ filled s t → o ≡ o′
-fresh-once s t o o′ p q = once p q
+pub fresh-once : calls.Fresh
+fresh-once = equals (λ M. fresh.met)
 
--- turn: the reply, the racks, and the three tables
-pub turn-once : (s : Size) (c : Card) (turn : List ℕ) (o o′ : Outcome) → o ≡ turned s c turn → o′ ≡ turned s c turn → o ≡ o′
-turn-once s c turn o o′ p q = once p q
+pub sound-once : calls.Sound
+sound-once = equals (λ M. sound.met)
 
--- sound: the reply; nothing is lent for writing
-pub sound-once : (s : Size) (c : Card) (o o′ : ℕ) → o ≡ soundness s c → o′ ≡ soundness s c → o ≡ o′
-sound-once s c o o′ p q = once p q
+pub turn-once : calls.Turn
+turn-once = equals (λ M. turn.met)
 
--- log entry
-pub entry-once : (s : Size) (logs : Logs) (rack lane place : ℕ) (o o′ : Entry)
-    → o ≡ logEntry s logs rack lane place → o′ ≡ logEntry s logs rack lane place → o ≡ o′
-entry-once s logs rack lane place o o′ p q = once p q
+-- the enum, and with it the document's number and values, which are a function of it
+pub log-entry-once : calls.LogEntry
+log-entry-once = record { keeps = λ M. log-entry.met; once = λ κs a r r′ x x′ p q. p .1 ∙ sym (q .1) }
 
--- agree, and the bytes that longer hands back
-pub agree-once : (a b : List ℕ) (o o′ : Bool) → o ≡ agree a b → o′ ≡ agree a b → o ≡ o′
-agree-once a b o o′ p q = once p q
+pub agree-once : calls.Agree
+agree-once = equals (λ M. compare-agree.met)
 
-pub longer-once : (a b o o′ : List ℕ) → o ≡ longer a b → o′ ≡ longer a b → o ≡ o′
-longer-once a b o o′ p q = once p q
-
--- and the log itself: where it begins, whatever name the logic gives a part
+-- the log itself: where it begins, whatever name the logic gives a part
 same-part : (a b : RefT (List ℕ)) (x y : ℕ) → longerItself a b x .ptr ≡ longerItself a b y .ptr
 unfolding longerItself
 same-part a b x y = either (bool (agree (now a) (now b))) (λ t. rw t) (λ f. rw f)
 
-pub longer-itself-once : (a b o o′ : RefT (List ℕ)) → o ≡ longerItself a b (o .name) → o′ ≡ longerItself a b (o′ .name) → o .ptr ≡ o′ .ptr
-longer-itself-once a b o o′ p q =
+itself-once : (a b o o′ : RefT (List ℕ)) → o ≡ longerItself a b (o .name) → o′ ≡ longerItself a b (o′ .name) → o .ptr ≡ o′ .ptr
+itself-once a b o o′ p q =
     ap (λ (r : RefT (List ℕ)). r .ptr) p ∙ same-part a b (o .name) (o′ .name) ∙ sym (ap (λ (r : RefT (List ℕ)). r .ptr) q)
 
--- the next turn record
-pub piece-once : (bytes : List ℕ) (at : ℕ) (o o′ : Piece) → o ≡ pieceAt bytes at → o′ ≡ pieceAt bytes at → o ≡ o′
-piece-once bytes at o o′ p q = once p q
+pub longer-once : calls.Longer
+longer-once = record {
+  keeps = λ M. compare-longer.met;
+  once = λ κs a r r′ x x′ p q i. ((p .0 ∙ sym (q .0)) i, itself-once (a .0) (a .1 .0) r r′ (p .1) (q .1) i);
+}
 
--- the place behind it
-pub place-behind-once : (bytes : List ℕ) (at o o′ : ℕ) → o ≡ placeBehind at (pieceAt bytes at) → o′ ≡ placeBehind at (pieceAt bytes at) → o ≡ o′
-place-behind-once bytes at o o′ p q = once p q
+pub piece-at-once : calls.PieceAt
+piece-at-once = equals (λ M. piece-at.met)
 
-pub next-once : (turns : Turns) (o o′ : Piece)
-    → o ≡ pieceAt (now (turns .bytes)) (turns .at) → o′ ≡ pieceAt (now (turns .bytes)) (turns .at) → o ≡ o′
-next-once turns o o′ p q = once p q
+pub place-behind-once : calls.PlaceBehind
+place-behind-once = equals (λ M. place-behind.met)
 
-pub first-once : (bytes : List ℕ) (o o′ : Piece) → o ≡ pieceAt bytes 0 → o′ ≡ pieceAt bytes 0 → o ≡ o′
-first-once bytes o o′ p q = once p q
+pub next-once : calls.Next
+next-once = equals (λ M. next.met)
 
--- a reader handed back: its bytes themselves, as a reference, and its place
-abbrev IsReader : Turns → RefT (List ℕ) → ℕ → Type 0
-IsReader o bytes at = (o .bytes ≡ bytes) × (o .at ≡ at)
+pub first-once : calls.First
+first-once = equals (λ M. first.met)
 
-reader-once : (bytes : RefT (List ℕ)) (at : ℕ) (o o′ : Turns) → IsReader o bytes at → IsReader o′ bytes at → o ≡ o′
-reader-once bytes at o o′ p q = λ i. record { bytes = once (p .0) (q .0) i; at = once (p .1) (q .1) i }
+-- two readers of the same bytes at one place are one
+reader-once : (bytes : RefT (List ℕ)) (at : ℕ) (r r′ : Turns) → calls.IsReader r bytes at → calls.IsReader r′ bytes at → r ≡ r′
+reader-once bytes at r r′ p q = λ i. record { bytes = (p .0 ∙ sym (q .0)) i; at = (p .1 ∙ sym (q .1)) i }
 
-pub over-once : (bytes : RefT (List ℕ)) (o o′ : Turns) → IsReader o bytes 0 → IsReader o′ bytes 0 → o ≡ o′
-over-once bytes o o′ p q = reader-once bytes 0 o o′ p q
+pub over-once : calls.Over
+over-once = record { keeps = λ M. over.met; once = λ κs a r r′ x x′ p q. reader-once _ _ r r′ p q }
 
-pub moved-once : (turns : Turns) (at : ℕ) (o o′ : Turns) → IsReader o (turns .bytes) at → IsReader o′ (turns .bytes) at → o ≡ o′
-moved-once turns at o o′ p q = reader-once (turns .bytes) at o o′ p q
+pub moved-once : calls.Moved
+moved-once = record { keeps = λ M. moved.met; once = λ κs a r r′ x x′ p q. reader-once _ _ r r′ p q }
 
-pub behind-once : (turns o o′ : Turns)
-    → IsReader o (turns .bytes) (placeBehind (turns .at) (pieceAt (now (turns .bytes)) (turns .at)))
-    → IsReader o′ (turns .bytes) (placeBehind (turns .at) (pieceAt (now (turns .bytes)) (turns .at))) → o ≡ o′
-behind-once turns o o′ p q = reader-once _ _ o o′ p q
+pub behind-once : calls.Behind
+behind-once = record { keeps = λ M. behind.met; once = λ κs a r r′ x x′ p q. reader-once _ _ r r′ p q }
 
--- a cue record: the reply and the lists
-pub add-cue-once : (n k : ℕ) (lists cue : List ℕ) (o o′ : Listed) → o ≡ addCue n k lists cue → o′ ≡ addCue n k lists cue → o ≡ o′
-add-cue-once n k lists cue o o′ p q = once p q
+pub add-cue-once : calls.AddCue
+add-cue-once = equals (λ M. add-cue.met)
 
--- the code of a cue
-pub code-once : (n k : ℕ) (lists : List ℕ) (rack lane number : ℕ) (o o′ : Code)
-    → o ≡ codeOf n k lists rack lane number → o′ ≡ codeOf n k lists rack lane number → o ≡ o′
-code-once n k lists rack lane number o o′ p q = once p q
+pub code-of-once : calls.CodeOf
+code-of-once = record { keeps = λ M. code-of.met; once = λ κs a r r′ x x′ p q. p .1 ∙ sym (q .1) }
 
--- what a firmware is told in numbers; the other exported calls promise what those above do
-pub entry-told-once : (s : Size) (logs : Logs) (rack lane place : ℕ) (o o′ : EntryAnswer)
-    → o ≡ entryTold (logEntry s logs rack lane place) → o′ ≡ entryTold (logEntry s logs rack lane place) → o ≡ o′
-entry-told-once s logs rack lane place o o′ p q = once p q
+pub night-fresh-once : calls.NightFresh
+night-fresh-once = equals (λ M. night-fresh.met)
 
-pub agree-told-once : (a b : List ℕ) (o o′ : ℕ) → o ≡ agreeTold (agree a b) → o′ ≡ agreeTold (agree a b) → o ≡ o′
-agree-told-once a b o o′ p q = once p q
+pub night-sound-once : calls.NightSound
+night-sound-once = equals (λ M. night-sound.met)
 
-pub longer-told-once : (a b : List ℕ) (o o′ : LongerAnswer) → o ≡ longerTold a b → o′ ≡ longerTold a b → o ≡ o′
-longer-told-once a b o o′ p q = once p q
+pub night-turn-once : calls.NightTurn
+night-turn-once = equals (λ M. night-turn.met)
 
-pub code-told-once : (n k : ℕ) (lists : List ℕ) (rack lane number : ℕ) (o o′ : CodeAnswer)
-    → o ≡ codeTold (codeOf n k lists rack lane number) → o′ ≡ codeTold (codeOf n k lists rack lane number) → o ≡ o′
-code-told-once n k lists rack lane number o o′ p q = once p q
+pub night-log-entry-once : calls.NightLogEntry
+night-log-entry-once = equals (λ M. night-log-entry.met)
+
+pub night-agree-once : calls.NightAgree
+night-agree-once = equals (λ M. night-agree.met)
+
+pub night-longer-once : calls.NightLonger
+night-longer-once = equals (λ M. night-longer.met)
+
+pub night-add-cue-once : calls.NightAddCue
+night-add-cue-once = equals (λ M. night-add-cue.met)
+
+pub night-code-of-once : calls.NightCodeOf
+night-code-of-once = equals (λ M. night-code-of.met)

@@ -1,18 +1,24 @@
--- What a turn of the history does to an object: a step in it, or nothing. So the result and the news of a rack that is done in it last.
+-- What a turn of the history does to an object: a step in it, or nothing. What lasts when a history grows lasts after any turns: so the
+-- result and the news of a rack that is done.
 use mathlib.Core.Path.{_≡_, refl, _∙_, subst}
 use mathlib.Core.Bool.{true, false}
 use mathlib.Core.List.{List, [], _∷_}
+use mathlib.Core.Option.{some}
 use Prim.Native.Nat.{ℕ, suc, _≤_, _<_}
-use borrow.Author.Tests.{lt-ltb, le-ltb, eq-eqb}
+use borrow.Author.Tests.{ltb-true, lt-ltb, le-ltb, eq-eqb}
 use lib.Dec.{ltb}
 use Rattle.laws.proofs.Cases.{bool, either, clash-bool}
-use Rattle.protocol.specs.Object.{Object, Move, step, Done}
+use Rattle.protocol.specs.Object.{Done}
 use Rattle.protocol.specs.Edition.{Edition, Lawful}
-use Rattle.protocol.specs.History.{Phase, offering, answering, visiting, History, Turn, laneNow, pastAnswer, proposal, settled, endBlock, move, isDone, visit}
+use Rattle.protocol.specs.History.{Phase, offering, answering, visiting, History, Turn, enter, laneNow, pastAnswer, hasAnswer, settled, endBlock, move, isDone, visit}
 use Rattle.protocol.specs.History.{fitsAnswer, act, turn, after}
-use Rattle.protocol.proofs.Put.{put-same, putAt-all}
-use Rattle.protocol.proofs.AdoptCommit.{Stays, result-kept}
-use Rattle.protocol.proofs.Invariant.{Invariant}
+use Rattle.protocol.proofs.Put.{put-same}
+use Rattle.protocol.proofs.AdoptCommit.{Stays}
+use Rattle.protocol.proofs.Invariant.{past-now, Invariant, Grows}
+use Rattle.protocol.proofs.RackStep.{enter-goes, rack-grows}
+use Rattle.protocol.proofs.Move.{move-grows}
+use Rattle.protocol.proofs.EndBlock.{settled-goes}
+use Rattle.protocol.proofs.Answer.{answer-grows}
 use Rattle.protocol.proofs.Turn.{turn-invariant}
 
 module _ (E : Edition) (n k : ℕ) where
@@ -66,49 +72,64 @@ module _ (E : Edition) (n k : ℕ) where
       let done : isDone E n k s₁ (t .rack) c ≡ true = eq-eqb _ n d in
       rw (lt-ltb (t .rack) n l, is, done, le-ltb (suc b) k last) (put-same (s .racks) (t .rack) (settled E s₁ (t .rack) (s .racks (t .rack))))
 
-  -- what holds of every object, and of every step in one, holds after a turn
-  module _ (s : History (E .Second)) (t : Turn) (P : ℕ → ℕ → Object (E .Second) → Type 0) (old : (r c : ℕ) → P r c (s .objects r c))
-      (new : (r c : ℕ) (v : Move) → P r c (step (E .make) n (s .objects r c) v)) where
-    moved : (q c : ℕ) → (r c′ : ℕ) → P r c′ (move E n k s q c .objects r c′)
-    moved q c =
-        putAt-all (s .objects) ((s .racks q) .finished) c _ P
-        (new ((s .racks q) .finished) c (record { rack = q; proposal = proposal s q ((s .racks q) .finished) c }))
-        old
+  -- what lasts when a history grows lasts after any turns
+  module _ (P : History (E .Second) → Type 0) (lasts : (s s′ : History (E .Second)) → Grows E n k s s′ → P s → P s′) where
+    end-lasts : (s : History (E .Second)) (q b : ℕ) → P s → P (endBlock E n k s q b)
+    unfolding endBlock
+    end-lasts s q b h =
+        let same : (r c p : ℕ) → s .decided r c ≡ some p → s .decided r c ≡ some p = λ r c p e. e in
+        either (bool (ltb (suc b) k))
+        (λ t. rw t
+        (lasts s _
+        (rack-grows E n k s q (enter (s .racks q) (visiting (suc b))) (enter-goes (s .racks q) (visiting (suc b)) (λ _. refl) (λ _. refl)) (s .decided) same)
+        h))
+        (λ f. rw f (lasts s _ (rack-grows E n k s q (settled E s q (s .racks q)) (settled-goes E n k s q) (s .decided) same) h))
 
-    acted : (phase : Phase) → (r c : ℕ) → P r c (act E n k s t phase .objects r c)
+    visit-lasts : (s : History (E .Second)) → Invariant E n k s → (q : ℕ) → q < n → (b : ℕ) → (s .racks q) .phase ≡ visiting b → P s
+        → P (visit E n k s q b)
+    visit-lasts s inv q l b is h =
+        let c = laneNow (s .racks q) b in
+        let s₁ = move E n k s q c in
+        let has : hasAnswer (s .racks q) ((s .racks q) .finished) ≡ true = rw is (past-now ((s .racks q) .finished)) in
+        let moved = lasts s s₁ (move-grows E n k s inv q l c has) h in
+        either (bool (isDone E n k s₁ q c)) (λ t. rw t (end-lasts s₁ q b moved)) (λ f. rw f moved)
+
+    act-lasts : (s : History (E .Second)) → Invariant E n k s → (t : Turn) → t .rack < n → (phase : Phase) → (s .racks (t .rack)) .phase ≡ phase → P s
+        → P (act E n k s t phase)
     unfolding act
-    acted offering r c = old r c
-    acted answering r c =
+    act-lasts s inv t l offering is h =
+        let a = s .racks (t .rack) in
+        lasts s _
+        (rack-grows E n k s (t .rack) (enter a answering) (enter-goes a answering (λ _. refl) (λ e. clash-bool e (rw is refl))) (s .decided) (λ r c p e. e))
+        h
+    act-lasts s inv t l answering is h =
         either (bool (fitsAnswer E n k s ((s .racks (t .rack)) .finished) (t .lane) (t .source)))
-        (λ e. rw e (old r c))
-        (λ f. rw f (old r c))
-    acted (visiting b) r c = rw (visit-objects s (t .rack) b) (moved (t .rack) (laneNow (s .racks (t .rack)) b) r c)
+        (λ y. rw y (lasts s _ (answer-grows E n k s inv (t .rack) l is (t .lane) (t .source) y) h))
+        (λ f. rw f h)
+    act-lasts s inv t l (visiting b) is h = visit-lasts s inv (t .rack) l b is h
 
-    turned-objects : (r c : ℕ) → P r c (turn E n k s t .objects r c)
+    turn-lasts : (s : History (E .Second)) → Invariant E n k s → (t : Turn) → P s → P (turn E n k s t)
     unfolding turn
-    turned-objects r c =
+    turn-lasts s inv t h =
         either (bool (ltb (t .rack) n))
-        (λ e. rw e (acted ((s .racks (t .rack)) .phase) r c))
-        (λ f. rw f (old r c))
+        (λ y. rw y (act-lasts s inv t (ltb-true (t .rack) n y) ((s .racks (t .rack)) .phase) refl h))
+        (λ f. rw f h)
 
-  module _ (W : Lawful E) (r c q : ℕ) (l : q < n) where
-    turn-stays : (s : History (E .Second)) (t : Turn) → Invariant E n k s → Done n (s .objects r c) q
-        → Stays E n (s .objects r c) (turn E n k s t .objects r c) q
-    turn-stays s t inv =
-        turned-objects s t (λ r c o. Done n (s .objects r c) q → Stays E n (s .objects r c) o q)
-        (λ r c d. record { done = d; result-stays = refl; news-stays = refl })
-        (λ r c v d. result-kept E n (s .objects r c) v (inv .consistent r c) q l d)
-        r c
-
-    pub after-stays : (s : History (E .Second)) (ts : List Turn) → Invariant E n k s → Done n (s .objects r c) q
-        → Stays E n (s .objects r c) (after E n k s ts .objects r c) q
+    pub after-lasts : Lawful E → (s : History (E .Second)) (ts : List Turn) → Invariant E n k s → P s → P (after E n k s ts)
     unfolding after
-    after-stays s [] inv d = record { done = d; result-stays = refl; news-stays = refl }
-    after-stays s (t ∷ ts) inv d =
-        let one = turn-stays s t inv d in
-        let rest = after-stays (turn E n k s t) ts (turn-invariant E W n k s t inv) (one .done) in
-        record {
-          done = rest .done;
-          result-stays = rest .result-stays ∙ one .result-stays;
-          news-stays = rest .news-stays ∙ one .news-stays;
-        }
+    after-lasts W s [] inv h = h
+    after-lasts W s (t ∷ ts) inv h = after-lasts W (turn E n k s t) ts (turn-invariant E W n k s t inv) (turn-lasts s inv t h)
+
+  -- a result and the news of a rack that is done
+  pub after-stays : Lawful E → (r c q : ℕ) → q < n → (s : History (E .Second)) (ts : List Turn) → Invariant E n k s → Done n (s .objects r c) q
+      → Stays E n (s .objects r c) (after E n k s ts .objects r c) q
+  after-stays W r c q l s ts inv d =
+      after-lasts (λ s′. Stays E n (s .objects r c) (s′ .objects r c) q)
+      (λ s₁ s₂ g one.
+      let more = g .objects-stay r c q l (one .done) in
+      record {
+        done = more .done;
+        result-stays = more .result-stays ∙ one .result-stays;
+        news-stays = more .news-stays ∙ one .news-stays;
+      })
+      W s ts inv (record { done = d; result-stays = refl; news-stays = refl })

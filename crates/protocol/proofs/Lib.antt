@@ -28,4 +28,5 @@ pub mod HowFar
 pub mod Lanes
 pub mod Entries
 pub mod Lasting
+pub mod Wins
 pub mod Theorem

@@ -13,7 +13,7 @@ use Rattle.protocol.proofs.Invariant.{past-later, Goes, goes-refl, InPh
 use Rattle.protocol.proofs.Invariant.{rack-stays, proposed-stays, first-lane-stays}
 
 -- a rack that enters another phase of its round
-enter-goes : (a : Rack) (phase : Phase) → (pastOffer (a .phase) ≡ true → pastOffer phase ≡ true)
+pub enter-goes : (a : Rack) (phase : Phase) → (pastOffer (a .phase) ≡ true → pastOffer phase ≡ true)
     → (pastAnswer (a .phase) ≡ true → pastAnswer phase ≡ true) → Goes a (enter a phase)
 enter-goes a phase f g =
     record {
@@ -25,7 +25,7 @@ enter-goes a phase f g =
 
 module _ (E : Edition) (n k : ℕ) where
   -- a step that changes rack q, and perhaps decides a lane, but no object
-  module _ (s : History (E .Second)) (inv : Invariant E n k s) (q : ℕ) (l : q < n) (a : Rack) (go : Goes (s .racks q) a)
+  module _ (s : History (E .Second)) (q : ℕ) (a : Rack) (go : Goes (s .racks q) a)
       (decided : ℕ → ℕ → Option ℕ) (keeps : (r c p : ℕ) → s .decided r c ≡ some p → decided r c ≡ some p) where
     abbrev pub s′ : History (E .Second)
     s′ = record { racks = put (s .racks) q a; objects = s .objects; decided = decided }
@@ -38,24 +38,25 @@ module _ (E : Edition) (n k : ℕ) where
           decided-stays = keeps;
         }
 
-    pub still-offered : (r c p : ℕ) → s .decided r c ≡ some p → (p < n) × (hasOffered (s′ .racks p) r ≡ true)
-    still-offered r c p e = let h = inv .decided-offered r c p e in (h .0, (rack-grows .racks-go p) .still-offered r (h .1))
+    module _ (inv : Invariant E n k s) (l : q < n) where
+      pub still-offered : (r c p : ℕ) → s .decided r c ≡ some p → (p < n) × (hasOffered (s′ .racks p) r ≡ true)
+      still-offered r c p e = let h = inv .decided-offered r c p e in (h .0, (rack-grows .racks-go p) .still-offered r (h .1))
 
-    pub rack-step : RackInvariant E n k s′ q a → ((r c p : ℕ) → decided r c ≡ some p → (p < n) × (hasOffered (s′ .racks p) r ≡ true))
-        → Invariant E n k s′
-    rack-step ok offered =
-        record {
-          consistent = inv .consistent;
-          rack-invariant = put-all (s .racks) q a (λ p b. p < n → RackInvariant E n k s′ p b)
-              (λ _. ok)
-              (λ p _ lp. rack-stays E n k s s′ rack-grows p lp (s .racks p) (inv .rack-invariant p lp));
-          decided-offered = offered;
-          proposed = proposed-stays E n k s s′ rack-grows inv;
-          first-finisher = λ r.
-              either (inv .first-finisher r)
-              (λ c. inl (commit-stays E n k s s′ rack-grows r c))
-              (λ f. inr (λ c i x e. first-lane-stays E n k s s′ rack-grows inv r c i x e (f c i x e)));
-        }
+      pub rack-step : RackInvariant E n k s′ q a → ((r c p : ℕ) → decided r c ≡ some p → (p < n) × (hasOffered (s′ .racks p) r ≡ true))
+          → Invariant E n k s′
+      rack-step ok offered =
+          record {
+            consistent = inv .consistent;
+            rack-invariant = put-all (s .racks) q a (λ p b. p < n → RackInvariant E n k s′ p b)
+                (λ _. ok)
+                (λ p _ lp. rack-stays E n k s s′ rack-grows p lp (s .racks p) (inv .rack-invariant p lp));
+            decided-offered = offered;
+            proposed = proposed-stays E n k s s′ rack-grows inv;
+            first-finisher = λ r.
+                either (inv .first-finisher r)
+                (λ c. inl (commit-stays E n k s s′ rack-grows r c))
+                (λ f. inr (λ c i x e. first-lane-stays E n k s s′ rack-grows inv r c i x e (f c i x e)));
+          }
 
   -- the invariant of a rack that enters another phase
   entered : (s : History (E .Second)) (q : ℕ) (a : Rack) (phase : Phase) → RackInvariant E n k s q a
@@ -84,7 +85,7 @@ module _ (E : Edition) (n k : ℕ) where
       let a = s .racks q in
       let go = enter-goes a phase f g in
       let keeps : (r c p : ℕ) → s .decided r c ≡ some p → s .decided r c ≡ some p = λ r c p e. e in
-      let grows = rack-grows s inv q l (enter a phase) go (s .decided) keeps in
-      rack-step s inv q l (enter a phase) go (s .decided) keeps
+      let grows = rack-grows s q (enter a phase) go (s .decided) keeps in
+      rack-step s q (enter a phase) go (s .decided) keeps inv l
       (entered _ q a phase (rack-stays E n k s _ grows q l a (inv .rack-invariant q l)) i h)
-      (still-offered s inv q l (enter a phase) go (s .decided) keeps)
+      (still-offered s q (enter a phase) go (s .decided) keeps inv l)

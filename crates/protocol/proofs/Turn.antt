@@ -23,7 +23,7 @@ use Rattle.protocol.proofs.EndBlock.{end-invariant}
 use Rattle.protocol.proofs.Answer.{answer-invariant}
 
 -- what a rack proposes in its first lane
-first-proposal : {Y : Type 0} (s : History Y) (i r c : ℕ) → c ≡ (s .racks i) .first r
+pub first-proposal : {Y : Type 0} (s : History Y) (i r c : ℕ) → c ≡ (s .racks i) .first r
     → proposal s i r c ≡ offerOf (s .racks) r c (s .decided r c)
 unfolding proposal
 first-proposal s i r c e = rw (eq-eqb c ((s .racks i) .first r) e)
@@ -93,7 +93,7 @@ module _ (E : Edition) (W : Lawful E) (n k : ℕ) where
         either (bool (isDone E n k s₁ q c))
         (λ t.
         let d = eqb-true _ _ t in
-        rw t (end-invariant E n k s₁ moved-invariant q l b is (up-to-here d) (has-commit d)))
+        rw t (end-invariant E n k s₁ q moved-invariant l b is (up-to-here d) (has-commit d)))
         (λ f. rw f moved-invariant)
 
   act-invariant : (s : History (E .Second)) → Invariant E n k s → (t : Turn) → t .rack < n → (phase : Phase) → (s .racks (t .rack)) .phase ≡ phase

@@ -13,8 +13,8 @@ use Rattle.model.specs.declared.Rack.{Rack}
 use Rattle.model.specs.Table.{logStart, logLength, resultAt, newsAt}
 use Rattle.model.specs.Settle.{logOf, settledRack, laneLog, settleLane, settleLanes, tooLong}
 use Rattle.model.proofs.Table.{entry-lane}
-use Rattle.logs.proofs.Length.{length-same}
-use Rattle.settle.specs.Append.{laneFits}
+use Rattle.model.proofs.Length.{length-same}
+use Rattle.settle.specs.Fits.{laneFits}
 use Rattle.settle.proofs.Lane.{settledLength, settled-length, settled-other}
 
 module _ (s : Size) (rack : ℕ) where
@@ -28,8 +28,8 @@ module _ (s : Size) (rack : ℕ) where
       → laneLog s rack logs r l .length ≤ s .rounds → logLength s (settleLane s rack logs r l .logs) rack lane ≡ logLength s logs rack lane
   unfolding settleLane laneLog
   lane-other logs r l lane p q n room =
-      length-same (settleLane s rack logs r l .logs) logs (logStart s rack lane) (s .rounds)
-      (λ j h. settled-other (logOf s logs rack l) (resultAt r l) (newsAt r l) (logStart s rack lane + j) (s .rounds) room
+      length-same (settleLane s rack logs r l .logs) logs (logStart s rack lane) (logStart s rack lane) (s .rounds)
+      (λ j h. settled-other (logOf s logs rack l) (resultAt r l) (newsAt r l) (s .rounds) room (logStart s rack lane + j)
       (λ i g e. n (sym (entry-lane s rack lane j rack l i q h p g e))))
 
   module _ (logs : Logs) (r : Rack) where

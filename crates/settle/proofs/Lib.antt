@@ -1,2 +1,3 @@
 pub mod Lane
 pub mod Lanes
+pub mod Part

@@ -8,7 +8,7 @@ use Rattle.model.specs.declared.Size.{Size}
 use Rattle.model.specs.declared.Rack.{Rack}
 use Rattle.model.specs.Size.{sizeFits}
 use Rattle.model.specs.InUse.{logsOf, logsLength}
-use Rattle.model.specs.Settle.{laneLog, tooLong}
+use Rattle.model.specs.Settle.{tooLong}
 
 -- so many records from a log's start on lie within the table
 pub record Room (logs : List ℕ) (start most : ℕ) : Type 0 where
@@ -21,13 +21,7 @@ pub record Lent (s : Size) (logs : List ℕ) (rack : ℕ) : Type 0 where
   pub exact : length logs ≡ logsLength s
   pub rack-there : rack < s .racks
 
--- a lane of it, whose log has room for what settling appends
-pub record LaneLent (s : Size) (logs : List ℕ) (rack : ℕ) (r : Rack) (lane : ℕ) : Type 0 where
-  pub lent : Lent s logs rack
-  pub lane-there : lane < s .lanes
-  pub room : laneLog s rack (logsOf logs) r lane .length ≤ s .rounds
-
--- all its lanes
+-- and every lane's log has room for what settling appends
 pub record LanesLent (s : Size) (logs : List ℕ) (rack : ℕ) (r : Rack) : Type 0 where
   pub lent : Lent s logs rack
   pub room : tooLong s rack (logsOf logs) r ≡ false

@@ -1,2 +1,2 @@
-pub mod Append
+pub mod Fits
 pub mod Lent

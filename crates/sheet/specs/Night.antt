@@ -8,8 +8,9 @@ use Rattle.model.specs.declared.Size.{Size}
 use Rattle.model.specs.declared.Rack.{Rack}
 use Rattle.model.specs.Size.{sizeFits}
 use Rattle.model.specs.InUse.{logsLength, logsOf}
-use Rattle.model.specs.Table.{Card, rackAt}
+use Rattle.model.specs.Table.{Tables, Card, rackAt}
 use Rattle.model.specs.Sound.{soundLogs}
+use Rattle.model.specs.Turn.{fits}
 use Rattle.model.specs.Cues.{listsFit}
 use Rattle.steady.proofs.Turn.{Steady}
 
@@ -45,4 +46,10 @@ pub record LogsReady (s : Size) (logs lists : List ℕ) (racks : List Rack) (out
   pub ok : soundLogs s (logsOf logs) ≡ true
   pub lists-fit : listsFit (s .racks) (s .lanes) lists ≡ true
   pub started : (rack : ℕ) → rack < s .racks → 1 ≤ rackAt racks rack .round
+  pub room : 65536 ≤ length out
+
+-- what playing and telling a night asks: tables that `fresh` fills, cue lists that fit, and room for the lines
+pub record NightReady (s : Size) (t : Tables) (lists out : List ℕ) : Type 0 where
+  pub fit : fits s t ≡ true
+  pub lists-fit : listsFit (s .racks) (s .lanes) lists ≡ true
   pub room : 65536 ≤ length out

@@ -4,15 +4,20 @@ ghost use mathlib.Core.Path.{_≡_};
 ghost use mathlib.Core.Bool.{true};
 ghost use Prim.Native.Nat.{_+_, _*_, _≤_, _<_};
 ghost use lib.ListN.{length};
-ghost use Rattle.model.specs.InUse.{cardOf};
+ghost use Rattle.model.specs.InUse.{tablesOf, cardOf};
 ghost use Rattle.model.specs.Size.{sizeFits};
 ghost use Rattle.model.specs.Cues.{listsFit};
-ghost use Rattle.sheet.specs.Night.{Played, PartReady, PartDone, RackReady, LogsReady};
+ghost use Rattle.tell.specs.Cut.{cuesRead};
+ghost use Rattle.sheet.specs.Night.{Played, PartReady, PartDone, RackReady, LogsReady, NightReady};
+ghost use Rattle.sheet.specs.Cut.{CuesOf};
 use model::Rack;
 use model::Size;
 
 // How many bytes of turns.rec are read at a time: 512 records.
 const PART: usize = 2048;
+
+// How many bytes of cues.rec are read: `cuesRead` says why no more.
+const CUES: usize = 8200;
 
 // 2^52 parts are 2^63 bytes, more than a file can have: so the loop over them has an end.
 const PARTS: u64 = 4_503_599_627_370_496;
@@ -108,7 +113,7 @@ fn play_some(
     requires { ⌜ PartReady size (cardOf (now cells) (now logs) (now decisions) (night .racks)) (night .read) (night .taken) (now out) ⌝ }
     ensures { λ r. ⌜ PartDone size (cardOf (now (cells .exit)) (now (logs .exit)) (now (decisions .exit)) (r .racks)) (night .read) (r .read) (r .taken) ⌝ }
 {
-    let mut buf = [0u8; 2048];
+    let mut buf = [0u8; PART];
     let n = io::read_full(fd, &mut buf);
     let racks = night.racks;
     let mut fine = true;
@@ -265,12 +270,9 @@ fn print_night(
     lists: &[u8],
     out: &mut [u8],
 )
-    requires { ⌜ (listsFit (size .racks) (size .lanes) (now lists) ≡ true) × (65536 ≤ length (now out)) ⌝ }
+    requires { ⌜ NightReady size (tablesOf (now cells) (now logs) (now decisions)) (now lists) (now out) ⌝ }
 {
     let reply = fresh::fresh(size, cells, logs, decisions);
-    if reply.number != 0 {
-        return;
-    }
     let racks = reply.racks;
     let night = play_all(fd, size, cells, logs, decisions, racks, out);
     if night.failed {
@@ -323,17 +325,27 @@ struct Cues {
     index: u64,
 }
 
-// The cues read and listed. 32 lists of 64 are full after 2,048 records, so that the 2,049th is bad at the latest and no more need be read.
-fn load_cues(size: Size, lists: &mut [u8]) -> Cues {
-    let mut bytes = [0u8; 8200];
-    let got = load(b"cues.rec", &mut bytes);
+// The cues listed from as much of cues.rec as the room lent takes: with that much these are the cues of the whole file.
+fn list_cues(size: Size, lists: &mut [u8], room: &mut [u8]) -> Cues
+    requires { ⌜ length (now room) ≡ cuesRead ⌝ }
+    ensures { λ r. ⌜ CuesOf (size .racks) (size .lanes) (now (lists .entry)) (record { number = r .number; index = r .index; lists = now (lists .exit) }) ⌝ }
+{
+    let got = load(b"cues.rec", room);
     let n = got.count;
-    let added = tell::tell_cues(size.racks, size.lanes, lists, &bytes[..n]);
+    let added = tell::tell_cues(size.racks, size.lanes, lists, &room[..n]);
     Cues {
         failed: got.failed,
         number: added.number,
         index: added.index,
     }
+}
+
+// The cues read and listed.
+fn load_cues(size: Size, lists: &mut [u8]) -> Cues
+    ensures { λ r. ⌜ CuesOf (size .racks) (size .lanes) (now (lists .entry)) (record { number = r .number; index = r .index; lists = now (lists .exit) }) ⌝ }
+{
+    let mut room = [0u8; CUES];
+    list_cues(size, lists, &mut room)
 }
 
 // The cues listed in the lists lent, then the sheet.

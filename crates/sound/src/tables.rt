@@ -16,6 +16,7 @@ use crate::values::sound_cell;
 use crate::values::sound_cue;
 use crate::values::zero_cue;
 use model::Size;
+use model::logs;
 
 // A record of the cell table: "records marked 0 are all zeros and spare bytes are zero"
 fn sound_record(size: Size, cells: &[u8], section: usize, i: usize) -> bool

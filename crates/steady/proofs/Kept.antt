@@ -58,7 +58,7 @@ shape-on r first h = record { firsts = h .firsts; seconds = h .seconds; held = h
 
 module _ (s : Size) where
   -- a rack past step 0 has not finished its rounds
-  begun : (round step : ℕ) → Clock s round step → 1 ≤ step → round ≤ s .rounds
+  pub begun : (round step : ℕ) → Clock s round step → 1 ≤ step → round ≤ s .rounds
   begun round step c h = either (c .resting) (λ (g : round ≤ s .rounds). g) (λ (e : step ≡ 0). absurd (omega arith))
 
   module _ (t : Tables) (rack : ℕ) (r : Rack) (ok : RackSound s t rack r) where

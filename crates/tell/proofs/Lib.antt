@@ -3,3 +3,4 @@ pub mod Turns
 pub mod Cues
 pub mod Steady
 pub mod Parts
+pub mod Cut

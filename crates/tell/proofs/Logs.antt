@@ -19,8 +19,8 @@ use Rattle.model.specs.Sound.{soundCue}
 use Rattle.model.specs.Cues.{listStart, listLength, codeIn}
 use Rattle.model.specs.Sheet.{logLine, entryLine, lineAt, entryLines, logLines}
 use Rattle.model.proofs.Sizes.{sizes}
-use Rattle.logs.proofs.Length.{length-most}
-use Rattle.logs.proofs.Start.{log-fits}
+use Rattle.model.proofs.Length.{length-most}
+use Rattle.model.proofs.Start.{log-fits}
 use Rattle.cues.proofs.Lists.{list-within, code-bytes}
 use Rattle.steady.proofs.Logs.{logs-facts}
 use Rattle.text.specs.Written.{Written, write}

@@ -18,7 +18,7 @@ use Rattle.text.specs.Written.{Written, write}
 use Rattle.tell.specs.Parts.{Playing, playPart, playParts, partsText, joined, Whole}
 
 -- the records of bytes that are whole records, and of those behind them
-pieces-append : (records : ℕ) (a b : List ℕ) → length a ≡ 4 * records → pieces (a ++ b) ≡ pieces a ++ pieces b
+pub pieces-append : (records : ℕ) (a b : List ℕ) → length a ≡ 4 * records → pieces (a ++ b) ≡ pieces a ++ pieces b
 unfolding pieces
 pieces-append zero [] b e = refl
 pieces-append zero (w ∷ a) b e = absurd (omega arith)

@@ -1,13 +1,12 @@
 -- What a steady card gives to whoever tells its turns and its logs, and that a card filled afresh is steady.
-use mathlib.Core.Path.{_≡_, ap, _∙_}
+use mathlib.Core.Path.{_≡_}
 use mathlib.Core.List.{List}
 use mathlib.Core.Bool.{true}
 use Prim.Native.Nat.{ℕ, _≤_, _<_}
 use native.Mathlib.Omega.{arith}
-use Rattle.model.specs.InUse.{tablesOf}
-use Rattle.laws.proofs.Cases.{either, bool}
 use Rattle.model.specs.declared.Size.{Size}
 use Rattle.model.specs.Size.{sizeUpTo}
+use Rattle.model.specs.InUse.{tablesOf}
 use Rattle.model.specs.Table.{Card, rackAt}
 use Rattle.model.specs.Turn.{Outcome, fits}
 use Rattle.model.specs.Sound.{soundLogs}
@@ -19,14 +18,13 @@ use Rattle.steady.proofs.Fresh.{fresh-fits, fresh-sound, fresh-shape}
 use Rattle.steady.proofs.Turn.{Steady}
 
 module _ (s : Size) where
-  -- a call that filled the tables left a fresh card
-  pub filled-steady : (cells logs decisions : List ℕ) (o : Outcome) → o ≡ filled s (tablesOf cells logs decisions) → o .number ≡ 0 → Steady s (o .card)
+  -- the call that fills tables which fit leaves a fresh card
+  pub filled-steady : (cells logs decisions : List ℕ) (o : Outcome) → o ≡ filled s (tablesOf cells logs decisions)
+      → fits s (tablesOf cells logs decisions) ≡ true → Steady s (o .card)
   unfolding filled freshCard
-  filled-steady cells logs decisions o e z =
-      either (bool (fits s (tablesOf cells logs decisions)))
-      (λ f. let fit = fits-size s (tablesOf cells logs decisions) f in
-      rw (e, f) (record { shape = fresh-shape s; fit = fresh-fits s fit; ok = fresh-sound s fit }))
-      (λ f. let n : o .number ≡ 1 = ap (λ (x : Outcome). x .number) e ∙ rw f in absurd (omega arith))
+  filled-steady cells logs decisions o e f =
+      let fit = fits-size s (tablesOf cells logs decisions) f in
+      rw (e, f) (record { shape = fresh-shape s; fit = fresh-fits s fit; ok = fresh-sound s fit })
 
   module _ (card : Card) (h : Steady s card) where
     pub steady-size : sizeUpTo (card .tables .cells .form .most) s ≡ true

@@ -1,3 +1,4 @@
 pub mod Log
 pub mod Turns
 pub mod Parts
+pub mod Cut

@@ -12,6 +12,7 @@ ghost use Rattle.tell.specs.Turns.{TurnsReady, replyText, tellTurns};
 ghost use Rattle.tell.specs.Log.{EntriesReady, LogReady, entriesText, logText};
 use model::Rack;
 use model::Size;
+use model::logs;
 
 // A byte as a size.
 fn wide(x: u8) -> usize

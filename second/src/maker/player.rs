@@ -4,14 +4,15 @@
 use crate::night::Night;
 use crate::random::Random;
 use crate::records::RECORD;
-use crate::refusal::number;
+use crate::refusal::{number, Refusal};
 use crate::sizes::{Sizes, MOST_RACKS};
 use crate::sound::SoundNight;
 
 use super::answers::{answer_record, Preference};
 use super::schedule::{Schedule, Scheduler};
 use super::sleep::Sleep;
-use super::wrong::{is_at_answer, wrong_answer, wrong_record};
+use super::wrong::{is_at_answer, refused_with, wrong_answer, wrong_record};
+use super::Kind;
 
 /// What is decided about a night before its first turn.
 pub struct Plan {
@@ -23,13 +24,39 @@ pub struct Plan {
     wrong_one_in: Option<usize>,
     /// The night stops before its last round is over.
     cut: bool,
+    /// The night is cut and racks are switched off after so many turns or more.
+    least_turns: usize,
     short_last_piece: bool,
+    /// A wrong record for each refusal, once the night allows it.
+    every_refusal: bool,
 }
 
 impl Plan {
-    pub fn new(random: &mut Random) -> Plan {
+    pub fn new(kind: Kind, schedule: Schedule, random: &mut Random) -> Plan {
+        let plan = Plan::drawn(schedule, random);
+        match kind {
+            // A schedule shows from its first turn on.
+            Kind::SizesInTurn(_) => Plan {
+                least_turns: 1,
+                ..plan
+            },
+            // The first rack answers before another has offered, the next finds its lane decided,
+            // and all of them finish: so every refusal has its moment.
+            Kind::EveryRefusal => Plan {
+                schedule: Schedule::Solo,
+                stalls: false,
+                switched_off: false,
+                cut: false,
+                every_refusal: true,
+                ..plan
+            },
+            _ => plan,
+        }
+    }
+
+    fn drawn(schedule: Schedule, random: &mut Random) -> Plan {
         Plan {
-            schedule: random.pick(&Schedule::ALL).unwrap_or(Schedule::AnyOrder),
+            schedule,
             preference: random.pick(&Preference::ALL).unwrap_or(Preference::Any),
             stalls: random.one_in(3),
             switched_off: random.one_in(3),
@@ -37,7 +64,9 @@ impl Plan {
                 .pick(&[None, None, Some(40), Some(10), Some(3)])
                 .flatten(),
             cut: random.one_in(3),
+            least_turns: 0,
             short_last_piece: random.one_in(8),
+            every_refusal: false,
         }
     }
 
@@ -49,11 +78,22 @@ impl Plan {
             (self.wrong_one_in.is_some(), "wrong records"),
             (self.cut, "cut"),
             (self.short_last_piece, "short last piece"),
+            (self.every_refusal, "every refusal"),
         ]
         .into_iter()
         .filter_map(|(is_in, what)| is_in.then_some(what))
     }
 }
+
+/// The refusals that a turn can get in a night from fresh: 1, 9 and 10 are no turn's, 2 and 8 need
+/// a hand-made table.
+pub const OF_A_NIGHT: [Refusal; 5] = [
+    Refusal::Record,
+    Refusal::Finished,
+    Refusal::LaneOrSource,
+    Refusal::NoOffer,
+    Refusal::OtherSource,
+];
 
 /// How many turns got each number; number 0 is for those taken.
 pub type Replies = [u64; 11];
@@ -100,12 +140,13 @@ impl Player {
         let sizes = self.night.night().sizes();
         let all_turns = sizes.racks() * sizes.rounds() * sizes.steps_of_round();
         let most_turns = if plan.cut {
-            random.below(all_turns)
+            random.between(plan.least_turns, all_turns - 1)
         } else {
             2 * all_turns
         };
         let mut scheduler = Scheduler::new(plan.schedule);
-        let mut sleep = Sleep::new(plan.stalls, plan.switched_off, sizes, random);
+        let off_from = plan.switched_off.then_some(plan.least_turns);
+        let mut sleep = Sleep::new(plan.stalls, off_from, sizes, random);
         for now in 0..most_turns {
             let awake = sleep.awake(now, self.night.night(), random);
             if plan.wrong_one_in.is_some_and(|count| random.one_in(count)) {
@@ -114,6 +155,9 @@ impl Player {
             let Some(rack) = scheduler.next_rack(self.night.night(), &awake, random) else {
                 break;
             };
+            if plan.every_refusal {
+                self.give_missing_refusals(rack, random);
+            }
             if plan.wrong_one_in.is_some() && is_at_answer(self.night.night(), rack) {
                 self.give_wrong_answer(rack, random);
             }
@@ -139,6 +183,18 @@ impl Player {
     fn give_wrong(&mut self, random: &mut Random) {
         let record = wrong_record(self.night.night(), random);
         self.give(&record);
+    }
+
+    /// A wrong record for each refusal that has not come yet and that the night allows now.
+    fn give_missing_refusals(&mut self, rack: usize, random: &mut Random) {
+        for refusal in OF_A_NIGHT {
+            if self.replies[usize::from(refusal.number())] > 0 {
+                continue;
+            }
+            if let Some(record) = refused_with(refusal, self.night.night(), rack, random) {
+                self.give(&record);
+            }
+        }
     }
 
     /// Bad answers come only at answer steps, so they are mixed in there.

@@ -22,6 +22,11 @@ impl Schedule {
         Schedule::AnyOrder,
     ];
 
+    /// The schedule whose turn it is: each once in as many seeds in a row.
+    pub fn in_turn(seed: u64) -> Schedule {
+        Schedule::ALL[(seed % Schedule::ALL.len() as u64) as usize]
+    }
+
     pub fn name(self) -> &'static str {
         match self {
             Schedule::RoundRobin => "round-robin",

@@ -13,15 +13,13 @@ pub struct Sleep {
 }
 
 impl Sleep {
-    pub fn new(stalls: bool, switched_off: bool, sizes: Sizes, random: &mut Random) -> Sleep {
+    /// Where racks are switched off at all, it is after so many turns or more.
+    pub fn new(stalls: bool, off_from: Option<usize>, sizes: Sizes, random: &mut Random) -> Sleep {
         let all_turns = sizes.racks() * sizes.rounds() * sizes.steps_of_round();
         let off_from = (0..sizes.racks())
-            .map(|_| {
-                if switched_off && random.one_in(2) {
-                    random.below(all_turns)
-                } else {
-                    usize::MAX
-                }
+            .map(|_| match off_from {
+                Some(least) if random.one_in(2) => random.between(least, all_turns - 1),
+                _ => usize::MAX,
             })
             .collect();
         Sleep {

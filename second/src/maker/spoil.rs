@@ -6,9 +6,9 @@ use crate::random::Random;
 use crate::records::RECORD;
 use crate::sizes::{Sizes, MOST_LANES, MOST_RACKS, MOST_ROUNDS};
 
-/// Makes a size file bad and tells how.
-pub fn spoil_size(size: &mut Vec<u8>, random: &mut Random) -> &'static str {
-    match random.below(5) {
+/// Makes a size file bad, in one of five ways, and tells how.
+pub fn spoil_size(size: &mut Vec<u8>, way: u64, random: &mut Random) -> &'static str {
+    match way % 5 {
         0 => {
             size.truncate(random.between(1, RECORD - 1));
             "short size"
@@ -35,11 +35,11 @@ pub fn spoil_size(size: &mut Vec<u8>, random: &mut Random) -> &'static str {
     }
 }
 
-/// Makes a cue file bad and tells how.
-pub fn spoil_cues(cues: &mut Vec<u8>, sizes: Sizes, random: &mut Random) -> &'static str {
+/// Makes a cue file bad, in one of five ways, and tells how.
+pub fn spoil_cues(cues: &mut Vec<u8>, sizes: Sizes, way: u64, random: &mut Random) -> &'static str {
     let rack = random.below(sizes.racks()) as u8;
     let lane = random.below(sizes.lanes()) as u8;
-    match random.below(5) {
+    match way % 5 {
         0 => {
             let piece = [rack, lane, 1];
             cues.extend_from_slice(&piece[..random.between(1, 3)]);

@@ -4,6 +4,7 @@
 use crate::night::Night;
 use crate::random::Random;
 use crate::records::RECORD;
+use crate::refusal::Refusal;
 use crate::sizes::{MOST_LANES, MOST_RACKS};
 use crate::step::Step;
 
@@ -25,8 +26,36 @@ pub fn wrong_record(night: &Night, random: &mut Random) -> [u8; RECORD] {
 
 /// Refusals 6 and 7: a bad answer for a rack at its answer step, where there is one.
 pub fn wrong_answer(night: &Night, rack: usize, random: &mut Random) -> Option<[u8; RECORD]> {
-    let standings = [Standing::NoOffer, Standing::DecidedForAnother];
-    let standing = random.pick(&standings)?;
+    let refusal = random.pick(&[Refusal::NoOffer, Refusal::OtherSource])?;
+    refused_with(refusal, night, rack, random)
+}
+
+/// A record that gets a refusal, where the night allows one with this rack to take its turn.
+pub fn refused_with(
+    refusal: Refusal,
+    night: &Night,
+    rack: usize,
+    random: &mut Random,
+) -> Option<[u8; RECORD]> {
+    match refusal {
+        Refusal::Record => of_bad_form(night, random),
+        Refusal::Finished => of_a_finished_rack(night, random),
+        Refusal::LaneOrSource => of_bad_lane_or_source(night, random),
+        Refusal::NoOffer => answer_standing(night, rack, Standing::NoOffer, random),
+        Refusal::OtherSource => answer_standing(night, rack, Standing::DecidedForAnother, random),
+        _ => None,
+    }
+}
+
+fn answer_standing(
+    night: &Night,
+    rack: usize,
+    standing: Standing,
+    random: &mut Random,
+) -> Option<[u8; RECORD]> {
+    if !is_at_answer(night, rack) {
+        return None;
+    }
     let (lane, source) = random.pick(&answers_standing(night, rack, standing))?;
     Some([rack as u8, lane as u8, source as u8, 0])
 }

@@ -136,6 +136,6 @@ fn made_nights_are_of_every_kind() {
             }
         }
     }
-    // 8 + 4 sizes, 5 schedules, 6 preferences, 5 plans, 10 bad files, replies 0 and 3 to 7.
-    assert_eq!(kinds.len(), 12 + 5 + 6 + 5 + 10 + 6, "{kinds:?}");
+    // 8 + 4 sizes, 5 schedules, 6 preferences, 6 plans, 10 bad files, replies 0 and 3 to 7.
+    assert_eq!(kinds.len(), 12 + 5 + 6 + 6 + 10 + 6, "{kinds:?}");
 }

@@ -1,9 +1,12 @@
 //! The program itself: its output, its one line of error and its exit status.
 
-use std::fs;
+use std::fs::{self, Permissions};
 use std::io::Write;
+use std::os::unix::fs::PermissionsExt;
 use std::path::{Path, PathBuf};
 use std::process::{Command, Stdio};
+
+use second::maker::CYCLE;
 
 /// A folder of a test's own, removed when the test is over.
 struct Scratch(PathBuf);
@@ -77,9 +80,15 @@ fn errors_are_one_line() {
     scratch.write("bad.txt", b"turn 0\nturn\n");
     scratch.write("night/size.rec", &[1, 1, 1, 0]);
     fs::create_dir_all(scratch.0.join("night/turns.rec")).expect("a folder");
-    let failing: [&[&str]; 9] = [
+    let failing: [&[&str]; 15] = [
         &["sheet", "night"],
         &["show", "night"],
+        &["sheet", "none"],
+        &["show", "none"],
+        &["show", "bad.txt"],
+        &["hold", "none", "night", "1", "0"],
+        &["hold", "night", "none", "1", "0"],
+        &["make", "18446744073709551615", "out", "2"],
         &["sheet", "bad.txt"],
         &["pack", "bad.txt", "out"],
         &["pack", "none.txt", "out"],
@@ -95,16 +104,23 @@ fn errors_are_one_line() {
     }
     let (_, error, _) = run(&scratch.0, &["pack", "bad.txt", "out"], "");
     assert_eq!(error, "bad.txt:2: no line of a night: turn\n");
+    let (_, error, _) = run(&scratch.0, &["sheet", "bad.txt"], "");
+    assert_eq!(error, "bad.txt: not a folder\n");
+    assert!(!scratch.0.join("out").exists());
 }
 
 #[test]
 fn wrong_usage_gets_the_usage() {
     let scratch = Scratch::new("usage");
-    let wrong: [&[&str]; 7] = [
+    let wrong: [&[&str]; 11] = [
         &[],
         &["sheets"],
         &["sheet", "a", "b"],
+        &["show"],
+        &["hold", "a", "b", "1"],
+        &["hold", "a", "b", "1", "x"],
         &["make", "x", "folder"],
+        &["make", "1", "folder", "-1"],
         &["make", "1"],
         &["pack", "a"],
         &["bench", "a"],
@@ -113,6 +129,7 @@ fn wrong_usage_gets_the_usage() {
         let (out, error, status) = run(&scratch.0, arguments, "");
         assert_eq!((out.as_str(), status), ("", Some(2)), "{arguments:?}");
         assert!(error.starts_with("usage: second sheet"), "{arguments:?}");
+        assert!(error.contains(&format!("from COUNT {CYCLE} on")));
         assert_eq!(error.lines().count(), 1, "{arguments:?}");
     }
 }
@@ -151,6 +168,29 @@ fn made_nights_compare_with_their_own_sheets() {
     }
     let (out, _, status) = run(&scratch.0, &["compare", "nights"], "");
     assert_eq!((out.as_str(), status), ("24 passed, 0 failed\n", Some(0)));
+}
+
+/// A program that prints sheets: this one, called so.
+fn sheets_program(scratch: &Scratch) {
+    let second = env!("CARGO_BIN_EXE_second");
+    let script = format!("#!/bin/sh\nexec '{second}' sheet\n");
+    scratch.write("sheets", script.as_bytes());
+    let path = scratch.0.join("sheets");
+    fs::set_permissions(path, Permissions::from_mode(0o755)).expect("a program");
+}
+
+#[test]
+fn hold_tells_what_came_up() {
+    let scratch = Scratch::new("hold");
+    sheets_program(&scratch);
+    scratch.write("nights/a/size.rec", &[3, 2, 37, 0]);
+    let (out, _, status) = run(&scratch.0, &["hold", "sheets", "nights", "1", "0"], "");
+    assert_eq!(status, Some(0));
+    assert!(out.starts_with("seeds from 1, 0 of them\nnights of 1 to 8 racks: [0, 0, 1, 0, 0"));
+    assert!(out.ends_with("bad size 0, bad cues 0\n1 passed, 0 failed\n"));
+    let (out, _, status) = run(&scratch.0, &["hold", "sheets", "nights", "5", "512"], "");
+    assert_eq!(status, Some(0));
+    assert!(out.ends_with("\n513 passed, 0 failed\n"), "{out}");
 }
 
 #[test]

@@ -7,7 +7,7 @@ use borrow.Author.Tests.{lt-ltb, le-ltb}
 use lib.ListN.{length}
 use Rattle.model.specs.InUse.{logsOf}
 use Rattle.model.specs.Cues.{listLength, codeIn}
-use Rattle.logs.proofs.Length.{length-most}
+use Rattle.model.proofs.Length.{length-most}
 use Rattle.cues.proofs.Lists.{code-there}
 use Rattle.cues.proofs.code_in.Statement.{statement}
 use Rattle.cues.proofs.code_in.Tie as tie
@@ -23,7 +23,7 @@ returns c = search needs
 returns-2 : tie.Need-returns-2
 returns-2 c =
     let a = c .before .before .before .before .before .args in
-    sym (code-there (a .lanes) (a .lists .now) (a .rack) (a .lane) (a .number) (c .before .before .before .if1 .left) ∙ rw (← used (c .before), le-ltb _ _ (c .if2 .taken)))
+    sym (code-there (a .lanes) (a .lists .now) (a .rack) (a .lane) (a .number) (c .before .before .before .if1 .left) ∙ rw (← used (c .before), le-ltb (a .number - 1) (c .before .length-from .result) (omega arith)))
 
 -- the code lies within the lists
 inside : (c : tie.Else2) → 2 * (c .before .before .list-start .result + (c .before .before .before .before .before .args .number - 1)) + 2 ≤ length (c .before .before .before .before .before .args .lists .now)

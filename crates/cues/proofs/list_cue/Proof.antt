@@ -29,7 +29,7 @@ length-from-requires c κs = rw (place (c .before)) (c .before .before .before .
 
 returns : tie.Need-returns
 unfolding listCue
-returns c = rw (← used (c .before), le-leb _ _ (c .if1 .taken))
+returns c = rw (← used (c .before), le-leb 64 (c .before .length-from .result) (omega arith))
 
 -- there is room
 room : (c : tie.Else1) → let a = c .before .before .before .before .before .before .before .before .before .before .args in

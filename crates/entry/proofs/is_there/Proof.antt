@@ -3,7 +3,7 @@ use Prim.Native.Nat.{_<_}
 use native.Mathlib.Omega.{arith}
 use borrow.Author.Tests.{leb-false}
 use Rattle.model.specs.Logs.{isThere}
-use Rattle.logs.proofs.Start.{log-fits}
+use Rattle.model.proofs.Start.{log-fits}
 use Rattle.entry.proofs.There.{below, not-below}
 use Rattle.entry.proofs.is_there.Statement.{statement}
 use Rattle.entry.proofs.is_there.Tie as tie

@@ -1,5 +1,5 @@
--- The tests on the way are those of `logEntry`, in its order.
-use mathlib.Core.Path.{_≡_, sym, _∙_}
+-- The tests on the way are those of `queried`, in its order.
+use mathlib.Core.Path.{_≡_, refl, sym, _∙_}
 use mathlib.Core.Bool.{true}
 use Prim.Native.Nat.{_+_, _*_, _≤_}
 use native.Mathlib.Omega.{arith}
@@ -8,10 +8,10 @@ use borrow.Author.Tests.{not-true, not-false}
 use lib.ListN.{length}
 use Rattle.model.specs.InUse.{logsOf}
 use Rattle.model.specs.Table.{logStart}
-use Rattle.model.specs.Logs.{isThere, logEntry}
+use Rattle.model.specs.Logs.{isThere, queried, logEntry}
 use Rattle.model.specs.Sound.{soundLogs}
-use Rattle.logs.proofs.Start.{log-fits}
-use Rattle.logs.proofs.Length.{length-most}
+use Rattle.model.proofs.Start.{log-fits}
+use Rattle.model.proofs.Length.{length-most}
 use Rattle.sizes.specs.Lengths.{logsFit}
 use Rattle.entry.proofs.There.{there, fitting}
 use Rattle.entry.proofs.log_entry.Statement.{statement}
@@ -40,21 +40,22 @@ inside e =
     omega (arith, f .1, t .place-there, m, log-fits _ _ _ (f .0) (t .rack-there) (t .lane-there))
 
 returns : tie.Need-returns
-unfolding logEntry logsFit
-returns c = rw (sym (c .before .logs-fit .ensures) ∙ not-true _ (c .if1 .taken))
+unfolding queried logEntry logsFit
+returns c = rw (sym (c .before .logs-fit .ensures) ∙ not-true _ (c .if1 .taken)) (refl, refl)
 
 returns-2 : tie.Need-returns-2
-unfolding logEntry logsFit
-returns-2 c = rw (fine (c .before .before), sym (c .before .sound-logs .ensures) ∙ not-true _ (c .if2 .taken))
+unfolding queried logEntry logsFit
+returns-2 c = rw (fine (c .before .before), sym (c .before .sound-logs .ensures) ∙ not-true _ (c .if2 .taken)) (refl, refl)
 
 returns-3 : tie.Need-returns-3
-unfolding logEntry logsFit
+unfolding queried logEntry logsFit
 returns-3 c =
     rw (
       fine (c .before .before .before .before),
       sound (c .before .before),
       sym (c .before .is-there .ensures) ∙ not-true _ (c .if3 .taken),
     )
+    (refl, refl)
 
 add-entry : tie.Need-add-entry
 add-entry c = omega (arith, c .log-start .ensures, inside (c .before))
@@ -63,10 +64,10 @@ entry-requires : tie.Need-entry-requires
 entry-requires c κs = omega (arith, c .log-start .ensures, inside (c .before))
 
 returns-4 : tie.Need-returns-4
-unfolding logEntry logsFit
+unfolding queried logEntry logsFit
 returns-4 c =
     let e = c .before .before in
-    rw (fine (e .before .before .before .before), sound (e .before .before), found e, c .entry .ensures, c .before .log-start .ensures)
+    rw (fine (e .before .before .before .before), sound (e .before .before), found e, c .entry .ensures, c .before .log-start .ensures) (refl, refl)
 
 pub log-entry-spec : {M : Type 1} → statement M
 log-entry-spec =

@@ -64,13 +64,16 @@ module _ (s : Size) (tie : Tie s) (e : sizeFits s ≡ true) (turns : List (List 
         _,
         _,
         record {
-          before = f .before;
-          turn = f .turn;
-          later = f .later;
-          split = f .split;
-          is-taken = is .is-taken;
-          of-rack = is .of-rack;
-          in-round = is .in-round;
+          at =
+              record {
+                before = f .before;
+                turn = f .turn;
+                later = f .later;
+                split = f .split;
+                is-taken = is .is-taken;
+                of-rack = is .of-rack;
+                in-round = is .in-round;
+              };
           in-lane = is .in-lane;
           reads = is .reads;
           last = is .last;

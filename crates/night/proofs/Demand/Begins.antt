@@ -12,7 +12,8 @@ use lib.Seq.{getD-take, getD-drop}
 use Rattle.laws.proofs.Cases.{true-and}
 use Rattle.model.specs.declared.Size.{Size}
 use Rattle.model.specs.declared.Cue.{Cue}
-use Rattle.model.specs.Size.{logRecords}
+use Rattle.model.specs.Size.{sizeFits, sizeUpTo, logRecords}
+use Rattle.model.specs.Form.{store}
 use Rattle.model.specs.Record.{Logs, entryAt}
 use Rattle.model.specs.InUse.{entryForm}
 use Rattle.model.specs.Turn.{turned}
@@ -104,14 +105,20 @@ module _ (s : Size) (c : Card) (tidy : Neat (logRecords s) (c .tables .logs)) wh
     pub bytes-begin : oneBegins (logBytes card s c p lane) (logBytes card s c q lane) ≡ true
     bytes-begin = agreeing (logBytes card s c p lane) (logBytes card s c q lane) same-byte
 
--- every log table that the card reaches is as it was written
-pub from-neat : (s : Size) (c : Card) (turns : List (List ℕ)) → Neat (logRecords s) (c .tables .logs)
-    → Neat (logRecords s) (from card s c turns .tables .logs)
-unfolding from
-from-neat s c [] z = z
-from-neat s c (turn ∷ turns) z =
-    from-neat s (turned s c turn .card) turns (turn-keeps (λ l. Neat (logRecords s) l) (λ t i x y. neat-store t i x y) s c turn z)
+-- what every store into the log table keeps, a night keeps
+module _ (P : Logs → Type 0) (keep : (t : Logs) (i : ℕ) (c : Cue) → P t → P (store t i c)) (s : Size) where
+  pub from-keeps : (c : Card) (turns : List (List ℕ)) → P (c .tables .logs) → P (from card s c turns .tables .logs)
+  unfolding from
+  from-keeps c [] p = p
+  from-keeps c (turn ∷ turns) p = from-keeps (turned s c turn .card) turns (turn-keeps P keep s c turn p)
 
-pub reached-neat : (s : Size) (turns : List (List ℕ)) → Neat (logRecords s) (reached card s turns .tables .logs)
-unfolding freshCard
-reached-neat s turns = from-neat s (freshCard s) turns (empty-neat entryForm (logRecords s))
+-- every log table that the card reaches is as it was written, and of a form that allows as many rounds
+module _ (s : Size) (turns : List (List ℕ)) where
+  pub reached-neat : Neat (logRecords s) (reached card s turns .tables .logs)
+  unfolding freshCard
+  reached-neat =
+      from-keeps (λ l. Neat (logRecords s) l) (λ t i x y. neat-store t i x y) s (freshCard s) turns (empty-neat entryForm (logRecords s))
+
+  pub reached-most : sizeFits s ≡ true → sizeUpTo (reached card s turns .tables .logs .form .most) s ≡ true
+  unfolding freshCard
+  reached-most e = from-keeps (λ l. sizeUpTo (l .form .most) s ≡ true) (λ t i x y. y) s (freshCard s) turns e

@@ -18,9 +18,10 @@ use Rattle.night.specs.Machine.{card, reached, taken, logBytes, entryOf,
 use Rattle.night.specs.View.{View}
 use Rattle.night.specs.Demands.{halfUp, Demand3}
 use Rattle.night.proofs.Demand.Tied.{Tie}
-use Rattle.night.proofs.Demand.Reached.{movesOf, historyOf, reached-tied, taken-accepted}
-use Rattle.night.proofs.Demand.Begins.{bytes-begin, reached-neat}
+use Rattle.night.proofs.Demand.Reached.{movesOf, historyOf, reached-steady, reached-tied, taken-accepted}
+use Rattle.night.proofs.Demand.Begins.{bytes-begin, reached-neat, reached-most}
 use Rattle.night.proofs.Demand.Numbers.{numbers-shown}
+use Rattle.night.proofs.Demand.Told.{entry-told}
 
 -- a round's length, by the size and by its parts
 pub round-length : (s : Size) → roundSteps s ≡ roundLength (s .racks) (s .lanes)
@@ -95,4 +96,6 @@ demand3 tie =
       numbers-run = λ s e. numbers-run s (tie s e) e;
       rounds-finished = λ s e. rounds-finished s (tie s e) e;
       entries-held = λ s e. entries-held s (tie s e) e;
+      lengths-counted = λ s e turns rack lane l ll. refl;
+      entries-told = λ s e turns. entry-told s (reached card s turns) (reached-steady s e turns) (reached-most s turns e);
     }

@@ -16,10 +16,11 @@ use Rattle.night.proofs.Demand.Tied.{Tie}
 use Rattle.night.proofs.Demand.Reached.{reached-steady}
 use Rattle.night.proofs.Demand.Admitted.{reply-admitted}
 use Rattle.night.proofs.Demand.AdoptCommit.{adopt-commit}
+use Rattle.night.proofs.Demand.VectorConsensus.{vector-consensus}
 use Rattle.night.proofs.Demand.DemandThree.{demand3, log-short}
 use Rattle.night.proofs.Demand.Unrefused as unrefused
 
-tie : (s : Size) → sizeFits s ≡ true → Tie s
+pub tie : (s : Size) → sizeFits s ≡ true → Tie s
 tie s e =
     record {
       fresh-view = fresh-view s e;
@@ -36,6 +37,7 @@ demand2 =
       adopt-commit = λ s e. adopt-commit s (tie s e) e;
       admitted = λ s e turns rack lane source l current answer.
           reply-admitted s (reached card s turns) (reached-steady s e turns) rack lane source l current answer;
+      vector-consensus = λ s e. vector-consensus s (tie s e) e;
     }
 
 pub demands : Demands card

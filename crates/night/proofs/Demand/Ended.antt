@@ -137,17 +137,18 @@ module _ (s : Size) (c : Card) (h : History Marked) (tied : Tied s c h) (q : ℕ
 pub ends-done : (s : Size) (tie : Tie s) → sizeFits s ≡ true → (turns : List (List ℕ)) (q r lane : ℕ) (x : Cell) (v : Value) → q < s .racks
     → Ends card s turns q (suc r) lane x v → Ended (s .racks) (historyOf s turns .objects r lane) q x v
 ends-done s tie e turns q r lane x v l ends =
-    let c = reached card s (ends .before) in
-    let m = moment s tie (freshCard s) (freshHistory first-edition) (fresh-tied s tie e) (ends .before) (ends .turn ∷ ends .later) in
+    let at = ends .at in
+    let c = reached card s (at .before) in
+    let m = moment s tie (freshCard s) (freshHistory first-edition) (fresh-tied s tie e) (at .before) (at .turn ∷ at .later) in
     let old = m .history in
     let fin =
-    ended-later s c old (m .tied) q l (ends .turn) (ends .of-rack) (ends .reads) (ends .last) (ends .is-taken) (ends .later)
+    ended-later s c old (m .tied) q l (at .turn) (at .of-rack) (ends .reads) (ends .last) (at .is-taken) (at .later)
     in
-    let whole : after first-edition (s .racks) (s .lanes) old (movesFrom s c (ends .turn ∷ ends .later)) ≡ historyOf s turns =
-    m .leads ∙ ap (historyOf s) (sym (ends .split))
+    let whole : after first-edition (s .racks) (s .lanes) old (movesFrom s c (at .turn ∷ at .later)) ≡ historyOf s turns =
+    m .leads ∙ ap (historyOf s) (sym (at .split))
     in
-    let in-round : (old .racks q) .finished ≡ r = omega (arith, shown s c old (m .tied) q l .round, ends .in-round) in
-    let same : after first-edition (s .racks) (s .lanes) old (movesFrom s c (ends .turn ∷ ends .later)) .objects ((old .racks q) .finished) (laneAt s (rackAt (c .racks) q))
+    let in-round : (old .racks q) .finished ≡ r = omega (arith, shown s c old (m .tied) q l .round, at .in-round) in
+    let same : after first-edition (s .racks) (s .lanes) old (movesFrom s c (at .turn ∷ at .later)) .objects ((old .racks q) .finished) (laneAt s (rackAt (c .racks) q))
     ≡ historyOf s turns .objects r lane =
     λ i. (whole i) .objects (in-round i) (ends .in-lane i)
     in

@@ -5,7 +5,7 @@ use mathlib.Core.Bool.{true, false, cond}
 use mathlib.Core.List.{List, [], _∷_, _++_}
 use Prim.Native.Nat.{ℕ, suc, _+_, _*_, _≤_, _<_}
 use native.Mathlib.Omega.{arith}
-use borrow.Author.Tests.{eqb-true, ltb-true}
+use borrow.Author.Tests.{eqb-true, eqb-false, ltb-true, ltb-false}
 use lib.Dec.{eqb, ltb}
 use Rattle.laws.proofs.Cases.{either, bool, eq-or-ne, lt-or-ge}
 use Rattle.model.specs.declared.Size.{Size}
@@ -199,33 +199,35 @@ module _ (s : Size) (tie : Tie s) (q : ℕ) (l : q < s .racks) (r lane : ℕ) wh
 
 -- the steps that the card counts are those of the object
 steps-now : (s : Size) (c : Card) (h : History Marked) → Tied s c h → (q : ℕ) → q < s .racks → (lane : ℕ)
-    → stepsIn s (rackAt (c .racks) q) lane ≡ blockSteps s → taken (h .objects ((h .racks q) .finished) lane) q ≡ blockSteps s
+    → stepsIn s (rackAt (c .racks) q) lane ≡ taken (h .objects ((h .racks q) .finished) lane) q
 unfolding stepsIn blockSteps
-steps-now s c h tied q l lane e =
+steps-now s c h tied q l lane =
     let a = rackAt (c .racks) q in
     let far = how-far first-edition (s .racks) (s .lanes) h (tied .invariant) (tied .clocked) q l .now lane in
     either (lt-or-ge (a .step) 2)
-    (λ (early : a .step < 2). absurd (omega arith))
+    (λ (early : a .step < 2). omega (arith, shown s c h tied q l .step))
     (λ (late : 2 ≤ a .step).
     let first = ap (λ (x : ℕ). blockOf x lane * blockLength (s .racks)) (at-work s c h tied q l late .1 .first-is) in
     omega (arith, shown s c h tied q l .step))
 
 steps-shown : (s : Size) (c : Card) (h : History Marked) → Tied s c h → (q : ℕ) → q < s .racks → (r lane : ℕ) → lane < s .lanes
     → let a = rackAt (c .racks) q in
-    cond (ltb (suc r) (a .round)) (blockSteps s) (cond (eqb (suc r) (a .round)) (stepsIn s a lane) 0) ≡ blockSteps s
-    → taken (h .objects r lane) q ≡ blockSteps s
-steps-shown s c h tied q l r lane lb e =
+    cond (ltb (suc r) (a .round)) (blockSteps s) (cond (eqb (suc r) (a .round)) (stepsIn s a lane) 0) ≡ taken (h .objects r lane) q
+steps-shown s c h tied q l r lane lb =
     let a = rackAt (c .racks) q in
     let far = how-far first-edition (s .racks) (s .lanes) h (tied .invariant) (tied .clocked) q l in
-    let long = block-long s in
     let round = shown s c h tied q l .round in
     either (bool (ltb (suc r) (a .round)))
-    (λ y. far .before r lane (omega (arith, ltb-true (suc r) (a .round) y)) lb ∙ sym (block-length s))
+    (λ y. rw y (block-length s ∙ sym (far .before r lane (omega (arith, ltb-true (suc r) (a .round) y)) lb)))
     (λ n. either (bool (eqb (suc r) (a .round)))
     (λ y.
     let here : r ≡ (h .racks q) .finished = omega (arith, eqb-true (suc r) (a .round) y) in
-    rw here (steps-now s c h tied q l lane (rw (n, y) at e)))
-    (λ f. let z : 0 ≡ blockSteps s = rw (n, f) at e in absurd (omega arith)))
+    rw (n, y, here) (steps-now s c h tied q l lane))
+    (λ f. rw (n, f) (sym (far .beyond r lane (omega (arith, ltb-false (suc r) (a .round) n, eqb-false (suc r) (a .round) f))))))
+
+pub steps-object : (s : Size) (tie : Tie s) → sizeFits s ≡ true → (turns : List (List ℕ)) (q r lane : ℕ) → q < s .racks → lane < s .lanes
+    → stepsTaken card s turns q (suc r) lane ≡ taken (historyOf s turns .objects r lane) q
+steps-object s tie e turns q r lane l lb = steps-shown s (reached card s turns) (historyOf s turns) (reached-tied s tie e turns) q l r lane lb
 
 pub found : (s : Size) (tie : Tie s) → sizeFits s ≡ true → (turns : List (List ℕ)) (q r lane : ℕ) → q < s .racks → lane < s .lanes
     → stepsTaken card s turns q (suc r) lane ≡ blockSteps s → Found s (freshCard s) turns q (suc r) lane
@@ -233,4 +235,4 @@ found s tie e turns q r lane l lb steps =
     find s tie q l r lane (freshCard s) (freshHistory first-edition) (fresh-tied s tie e)
     (λ z. omega (arith, fresh-taken Marked q, block-long s))
     turns
-    (steps-shown s (reached card s turns) (historyOf s turns) (reached-tied s tie e turns) q l r lane lb steps)
+    (sym (steps-object s tie e turns q r lane l lb) ∙ steps)

@@ -8,7 +8,6 @@ use native.Mathlib.Omega.{arith}
 use borrow.Author.Tests.{eq-eqb}
 use lib.ListN.{length, length-set}
 use lib.Seq.{getD-set-same, getD-set-other}
-use Rattle.laws.proofs.Cases.{either}
 use Rattle.model.specs.declared.Size.{Size}
 use Rattle.model.specs.declared.Value.{Value}
 use Rattle.model.specs.declared.Cell.{Cell}
@@ -36,7 +35,7 @@ use Rattle.night.proofs.View.Rules.{result-seen}
 use Rattle.night.proofs.View.News.{news-seen}
 use Rattle.night.proofs.View.Gathered.{one-more-shown}
 use Rattle.night.proofs.Demand.Marks.{marked-value}
-use Rattle.night.proofs.Demand.Work.{shown, small, rack-sound, rack-shape, at-work}
+use Rattle.night.proofs.Demand.Work.{shown, small, rack-shape, round-left, at-work}
 
 -- the marks of second cells are what they hold
 same-marks : (cells : List (Option Marked)) → map (Option·map (λ (m : Marked). m)) cells ≡ cells
@@ -79,10 +78,7 @@ module _ (s : Size) (c : Card) (h : History Marked) (tied : Tied s c h) (q : ℕ
   lane-there = at-work s c h tied q l late .1 .lane-below
 
   pub current : (h .racks q) .finished < s .rounds
-  current =
-      either (rack-sound s c h tied q l .clock .resting)
-      (λ (g : r .round ≤ s .rounds). omega (arith, shown s c h tied q l .round))
-      (λ (e : r .step ≡ 0). absurd (omega arith))
+  current = round-left s c h tied q l (omega (arith, late))
 
   -- it reads the last of n second cells
   is-read : (i : ℕ) × (suc i ≡ s .racks) × (length ((o .seconds q) .gathered) ≡ i) × (step secondCell (s .racks) o ownMove ≡ readSecond o q)

@@ -19,7 +19,7 @@ use Rattle.protocol.proofs.Placed.{Now}
 use Rattle.model.proofs.Place.{Stands, stands-block, stands-place}
 use Rattle.steady.proofs.Facts.{RackSound}
 use Rattle.steady.proofs.Tested.{card-facts}
-use Rattle.steady.proofs.Kept.{block-there, lane-there}
+use Rattle.steady.proofs.Kept.{begun, block-there, lane-there}
 use Rattle.night.specs.View.{RackView}
 use Rattle.night.proofs.Demand.Tied.{Tied}
 
@@ -59,6 +59,10 @@ module _ (s : Size) (c : Card) (h : History Marked) (tied : Tied s c h) (q : ℕ
 
   pub rack-shape : RackShape (rackAt (c .racks) q)
   rack-shape = tied .steady .shape .each q eight
+
+  -- a rack past step 0 has not finished its rounds
+  pub round-left : 1 ≤ rackAt (c .racks) q .step → (h .racks q) .finished < s .rounds
+  round-left late = omega (arith, begun s (r .round) (r .step) (rack-sound .clock) late, shown .round)
 
   work : 2 ≤ r .step → (phase : Phase) → a .phase ≡ phase
       → r .step ≡ stepIn (s .racks) (h .objects) q (a .finished) (a .first (a .finished)) phase

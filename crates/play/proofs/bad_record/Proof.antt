@@ -2,13 +2,14 @@
 use native.Mathlib.Omega.{arith}
 use borrow.Author.Needs.{needs}
 use borrow.Author.Tests.{eq-eqb, ne-eqb}
+use lib.ListN.{length}
 use Rattle.model.specs.Turn.{badRecord}
 use Rattle.play.proofs.bad_record.Statement.{statement}
 use Rattle.play.proofs.bad_record.Tie as tie
 
 returns : tie.Need-returns
 unfolding badRecord
-returns c = rw (ne-eqb _ _ (c .if1 .taken))
+returns c = rw (ne-eqb (length (c .before .args .turn .now)) 4 (λ e. omega (arith, c .if1 .taken)))
 
 returns-2 : tie.Need-returns-2
 unfolding badRecord

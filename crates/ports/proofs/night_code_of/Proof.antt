@@ -6,10 +6,10 @@ use Rattle.ports.proofs.night_code_of.Statement.{statement}
 use Rattle.ports.proofs.night_code_of.Tie as tie
 
 returns : tie.Need-returns
-returns c = ap codeTold (sym (c .before .answer .given .1) ∙ c .before .before .before .code-of .ensures)
+returns c = ap codeTold (sym (c .before .answer .given .1) ∙ c .before .before .before .code-of .ensures .1)
 
 returns-2 : tie.Need-returns-2
-returns-2 c = ap codeTold (sym (c .before .answer2 .given .1) ∙ c .before .before .before .code-of .ensures)
+returns-2 c = ap codeTold (sym (c .before .answer2 .given .1) ∙ c .before .before .before .code-of .ensures .1)
 
 pub night-code-of-spec : {M : Type 1} → statement M
 night-code-of-spec =

@@ -9,7 +9,7 @@ use Rattle.sheet.proofs.print_night.Tie as tie
 play-all-requires : tie.Need-play-all-requires
 play-all-requires c κs =
     record {
-      played = record { steady = filled-steady _ _ _ _ _ (c .before .before .before .before .before .before .before .before .before .before .before .before .before .fresh .ensures) (c .before .before .before .before .before .if1 .left); fewer = omega arith };
+      played = record { steady = filled-steady _ _ _ _ _ (c .before .before .before .before .before .before .before .before .before .before .before .fresh .ensures) (c .before .before .before .before .before .before .before .before .before .before .before .before .before .before .before .before .before .before .before .before .pre .fit); fewer = omega arith };
       room = search needs;
       few = omega arith;
     }
@@ -17,13 +17,13 @@ play-all-requires c κs =
 print-played-requires : tie.Need-print-played-requires
 print-played-requires c κs =
     let played = c .before .before .before .before .before .before .before .before .before .before .before .play-all .ensures in
-    let pre = c .before .before .before .before .before .before .before .before .before .before .before .before .before .before .before .before .before .before .before .before .before .before .before .before .before .before .before .before .before .before .before .before .before .before .pre in (
+    let pre = c .before .before .before .before .before .before .before .before .before .before .before .before .before .before .before .before .before .before .before .before .before .before .before .before .before .before .before .before .before .before .before .before .pre in (
       played .fewer,
       record {
         fit = steady-size _ _ (played .steady);
         exact = fits-exact _ _ (played .steady .fit) .logs;
         ok = steady-logs _ _ (played .steady);
-        lists-fit = pre .0;
+        lists-fit = pre .lists-fit;
         started = steady-round _ _ (played .steady);
         room = search needs;
       },
@@ -34,10 +34,6 @@ print-night-spec =
     tie.close
     (tie.spec
     (λ c κs. search needs)
-    (λ c. search needs)
-    (λ c. search needs)
-    (λ c. search needs)
-    (λ c. search needs)
     play-all-requires
     (λ c. search needs)
     (λ c. search needs)

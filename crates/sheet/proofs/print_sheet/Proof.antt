@@ -1,9 +1,10 @@
--- The tables of the largest size have room in the arrays.
+-- The tables of the largest size have room in the arrays, and those of a size have their exact length.
 use Prim.Native.Nat.{_*_, _≤_}
 use native.Mathlib.Omega.{arith}
 use borrow.Author.Needs.{needs}
 use Rattle.model.proofs.Sizes.{sizes, rows-most, records-most}
 use Rattle.sheet.proofs.Parts.{part-length}
+use Rattle.sheet.proofs.Sizes.{tables-fit}
 use Rattle.sheet.proofs.print_sheet.Statement.{statement}
 use Rattle.sheet.proofs.print_sheet.Tie as tie
 
@@ -13,6 +14,16 @@ few c = let e = c .records .ensures in omega (arith, records-most _ (sizes _ (c 
 
 rows : (c : tie.After-records) → c .before .before .args .size .rounds * c .before .before .args .size .lanes ≤ 256
 rows c = rows-most _ (sizes _ (c .before .before .pre .0))
+
+print-night-requires : tie.Need-print-night-requires
+print-night-requires c κs =
+    let r = c .before .before .before .before .before in
+    let pre = c .before .before .before .before .before .before .before .pre in
+    record {
+      fit = tables-fit _ (pre .0) _ (r .records .ensures) _ _ _ (omega (arith, few r)) (omega (arith, few r)) (omega (arith, rows r));
+      lists-fit = pre .1;
+      room = search needs;
+    }
 
 pub print-sheet-spec : {M : Type 1} → statement M
 print-sheet-spec =
@@ -29,5 +40,5 @@ print-sheet-spec =
     (λ c. omega (arith, rows (c .before .before .before)))
     (λ c. part-length _ _ (omega (arith, rows (c .before .before .before .before))))
     (λ c. search needs)
-    (λ c κs. search needs)
+    print-night-requires
     (λ c. search needs))

@@ -2,7 +2,7 @@
 use mathlib.Core.Path.{ap, _∙_}
 use native.Mathlib.Omega.{arith}
 use borrow.Author.Needs.{needs}
-use Rattle.logs.proofs.Start.{log-fits}
+use Rattle.model.proofs.Start.{log-fits}
 use Rattle.text.specs.Written.{write}
 use Rattle.text.proofs.Written.{behind, moved}
 use Rattle.text.proofs.Lines.{log-most}

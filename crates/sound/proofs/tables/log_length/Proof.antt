@@ -1,7 +1,7 @@
 -- The R records of a log lie in the log table.
 use native.Mathlib.Omega.{arith}
 use borrow.Author.Needs.{needs}
-use Rattle.logs.proofs.Start.{log-fits}
+use Rattle.model.proofs.Start.{log-fits}
 use Rattle.sound.proofs.tables.log_length.Statement.{statement}
 use Rattle.sound.proofs.tables.log_length.Tie as tie
 

@@ -2,7 +2,7 @@
 use native.Mathlib.Omega.{arith}
 use borrow.Author.Needs.{needs}
 use Rattle.model.specs.Sound.{soundLog}
-use Rattle.logs.proofs.Start.{log-fits}
+use Rattle.model.proofs.Start.{log-fits}
 use Rattle.sound.proofs.tables.sound_log.Statement.{statement}
 use Rattle.sound.proofs.tables.sound_log.Tie as tie
 
