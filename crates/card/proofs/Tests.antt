@@ -1,22 +1,14 @@
 -- Tests 1 and 2: a card that passes them may be played on, and a turn on one that does not is refused with the test's number.
 use mathlib.Core.Path.{_≡_}
 use mathlib.Core.List.{List}
-use mathlib.Core.Bool.{true}
 use Prim.Native.Nat.{ℕ}
 use native.Mathlib.Omega.{arith}
 use Rattle.laws.proofs.Cases.{either, bool}
 use Rattle.model.specs.declared.Size.{Size}
-use Rattle.model.specs.Table.{Tables, Card}
+use Rattle.model.specs.Table.{Card}
 use Rattle.model.specs.Turn.{fits, refusal, turned, soundness}
 use Rattle.model.specs.Sound.{sound}
-use Rattle.model.proofs.Sizes.{fits-size, fits-exact}
-use Rattle.sound.specs.Lent.{Lent}
 use Rattle.play.specs.Playable.{Playable}
-
-pub lent : (s : Size) (t : Tables) → fits s t ≡ true → Lent s (t .cells) (t .logs) (t .decisions)
-lent s t e =
-    let x = fits-exact s t e in
-    record { size = fits-size s t e; cells-exact = x .cells; logs-exact = x .logs; decisions-exact = x .decisions }
 
 module _ (s : Size) (c : Card) where
   pub playable : soundness s c ≡ 0 → Playable s c

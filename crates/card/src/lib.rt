@@ -1,5 +1,6 @@
 // The card's public calls on all its tables: the soundness test and the turn.
 ghost use mathlib.Core.Path.{_≡_};
+ghost use Rattle.model.specs.InUse.{cardOf, outcome};
 ghost use Rattle.model.specs.Turn.{turned, soundness};
 use model::Rack;
 use model::Reply;
@@ -7,7 +8,7 @@ use model::Size;
 
 // 1 for sizes and lengths, 2 for tables or states that are not sound, else 0.
 pub fn sound(size: Size, cells: &[u8], logs: &[u8], decisions: &[u8], racks: [Rack; 8]) -> u8
-    ensures { λ r. ⌜ r ≡ soundness size (record { tables = record { cells = now (cells .entry); logs = now (logs .entry); decisions = now (decisions .entry) }; racks = racks }) ⌝ }
+    ensures { λ r. ⌜ r ≡ soundness size (cardOf (now (cells .entry)) (now (logs .entry)) (now (decisions .entry)) racks) ⌝ }
 {
     let fine = sizes::lengths_fit(size, cells.len(), logs.len(), decisions.len());
     if !fine {
@@ -29,7 +30,8 @@ pub fn turn(
     racks: [Rack; 8],
     turn: &[u8],
 ) -> Reply
-    ensures { λ r. ⌜ record { number = r .number; card = record { tables = record { cells = now (cells .exit); logs = now (logs .exit); decisions = now (decisions .exit) }; racks = r .racks } } ≡ turned size (record { tables = record { cells = now (cells .entry); logs = now (logs .entry); decisions = now (decisions .entry) }; racks = racks }) (now (turn .entry)) ⌝ }
+    ensures { λ r. ⌜ outcome (r .number) (now (cells .exit)) (now (logs .exit)) (now (decisions .exit)) (r .racks)
+        ≡ turned size (cardOf (now (cells .entry)) (now (logs .entry)) (now (decisions .entry)) racks) (now (turn .entry)) ⌝ }
 {
     let number = sound(size, cells, logs, decisions, racks);
     if number != 0 {

@@ -7,7 +7,7 @@ use native.Mathlib.Nat.{add-mul}
 use lib.ListN.{length}
 use Rattle.laws.proofs.Index.{rows-below, cell-below, product-le}
 use Rattle.model.specs.declared.Size.{Size}
-use Rattle.model.specs.Size.{records, cellsLength}
+use Rattle.model.specs.Size.{records, cellRecords}
 use Rattle.model.specs.Table.{cellIndex}
 use Rattle.model.proofs.Table.{spot-below}
 use Rattle.cells.specs.Here.{Here}
@@ -24,7 +24,7 @@ pub record Room (s : Size) (cells : List ℕ) (section round lane rack : ℕ) : 
   pub place : ((round - 1) * s .lanes + lane) * s .racks + rack < records s
 
 pub room : {s : Size} {cells : List ℕ} {section round lane rack : ℕ} → Here s cells section round lane rack → Room s cells section round lane rack
-unfolding cellsLength
+unfolding cellRecords
 room {s} {cells} {section} {round} {lane} {rack} h =
     let z = sizes s (h .size) in
     let p = h .spot in
@@ -34,7 +34,7 @@ room {s} {cells} {section} {round} {lane} {rack} h =
     record {
       rows = rows-most s z;
       all = records-most s z;
-      bytes = h .exact;
+      bytes = omega (arith, h .exact);
       sections = rows-below {i = section} {k = 3} (records s) (p .section-there);
       rows-before = b;
       before = omega arith;

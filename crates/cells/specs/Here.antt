@@ -5,7 +5,8 @@ use mathlib.Core.Bool.{true}
 use Prim.Native.Nat.{ℕ}
 use lib.ListN.{length}
 use Rattle.model.specs.declared.Size.{Size}
-use Rattle.model.specs.Size.{sizeFits, cellsLength}
+use Rattle.model.specs.Size.{sizeFits}
+use Rattle.model.specs.InUse.{cellsLength}
 use Rattle.model.proofs.Table.{Spot}
 
 pub record Here (s : Size) (cells : List ℕ) (section round lane rack : ℕ) : Type 0 where

@@ -2,7 +2,9 @@
 ghost use mathlib.Core.Path.{_≡_};
 ghost use Prim.Native.Nat.{_+_, _*_, _≤_, _<_};
 ghost use lib.ListN.{length};
-ghost use Rattle.model.specs.Record.{noValue, noCell, sameCue, sameValue, sameCell, cellAt, storeCell};
+ghost use Rattle.model.specs.Record.{noValue, noCell, sameCue, sameValue, sameCell, cellAt};
+ghost use Rattle.model.specs.Form.{stored};
+ghost use Rattle.model.specs.InUse.{cellsOf};
 ghost use Rattle.model.specs.Table.{offers, readCell, writeCell};
 ghost use Rattle.model.specs.Step.{offersOf};
 ghost use Rattle.cells.specs.Here.{Here};
@@ -42,7 +44,7 @@ pub fn no_cell() -> Cell
 // The record at index `at`: mark, place, issuer, number, previous issuer, previous number.
 pub fn load(table: &[u8], at: usize) -> Cell
     requires { ⌜ 8 * at + 8 ≤ length (now table) ⌝ }
-    ensures { λ c. ⌜ c ≡ cellAt (now (table .entry)) at ⌝ }
+    ensures { λ c. ⌜ c ≡ cellAt (cellsOf (now (table .entry))) at ⌝ }
 {
     let b = 8 * at;
     Cell {
@@ -64,7 +66,7 @@ pub fn load(table: &[u8], at: usize) -> Cell
 // Writes the record at index `at`, with its two zero bytes.
 pub fn store(table: &mut [u8], at: usize, c: Cell)
     requires { ⌜ 8 * at + 8 ≤ length (now table) ⌝ }
-    ensures { λ _. ⌜ now (table .exit) ≡ storeCell (now (table .entry)) at c ⌝ }
+    ensures { λ _. ⌜ now (table .exit) ≡ stored (cellsOf (now (table .entry))) at c ⌝ }
 {
     let b = 8 * at;
     table[b] = c.mark;
@@ -121,7 +123,7 @@ pub fn read(
     rack: usize,
 ) -> Cell
     requires { ⌜ Here size (now cells) section round lane rack ⌝ }
-    ensures { λ c. ⌜ c ≡ readCell size (now (cells .entry)) section round lane rack ⌝ }
+    ensures { λ c. ⌜ c ≡ readCell size (cellsOf (now (cells .entry))) section round lane rack ⌝ }
 {
     let n = size.racks;
     let k = size.lanes;
@@ -132,7 +134,7 @@ pub fn read(
 // Writes one record of one round's part of a section: the lane's, of the rack.
 fn put(part: &mut [u8], n: usize, lane: usize, rack: usize, c: Cell)
     requires { ⌜ 8 * (lane * n + rack) + 8 ≤ length (now part) ⌝ }
-    ensures { λ _. ⌜ now (part .exit) ≡ storeCell (now (part .entry)) (lane * n + rack) c ⌝ }
+    ensures { λ _. ⌜ now (part .exit) ≡ stored (cellsOf (now (part .entry))) (lane * n + rack) c ⌝ }
 {
     store(part, lane * n + rack, c);
 }
@@ -148,7 +150,7 @@ pub fn write(
     c: Cell,
 )
     requires { ⌜ Here size (now cells) section round lane rack ⌝ }
-    ensures { λ _. ⌜ now (cells .exit) ≡ writeCell size (now (cells .entry)) section round lane rack c ⌝ }
+    ensures { λ _. ⌜ cellsOf (now (cells .exit)) ≡ writeCell size (cellsOf (now (cells .entry))) section round lane rack c ⌝ }
 {
     let n = size.racks;
     let k = size.lanes;
@@ -172,7 +174,7 @@ fn put_offers(part: &mut [u8], n: usize, k: usize, rack: usize, held: [Value; 4]
 // "all k held values go into the rack's offer cells of this round": only that round's part of the offers is lent on.
 pub fn write_offers(cells: &mut [u8], size: Size, rack: usize, r: Rack)
     requires { ⌜ Here size (now cells) offers (r .round) 0 rack ⌝ }
-    ensures { λ _. ⌜ now (cells .exit) ≡ offersOf size (now (cells .entry)) rack r (size .lanes) ⌝ }
+    ensures { λ _. ⌜ cellsOf (now (cells .exit)) ≡ offersOf size (cellsOf (now (cells .entry))) rack r (size .lanes) ⌝ }
 {
     let n = size.racks;
     let k = size.lanes;

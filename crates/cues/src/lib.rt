@@ -84,7 +84,8 @@ pub fn code_of(
     lane: usize,
     number: usize,
 ) -> Code
-    ensures { λ r. ⌜ (record { number = codeNumber r; code = codeValue r } ≡ coded racks lanes (now (lists .entry)) rack lane number) × (r ≡ codeOf racks lanes (now (lists .entry)) rack lane number) ⌝ }
+    ensures { λ r. ⌜ (record { number = codeNumber r; code = codeValue r } ≡ coded racks lanes (now (lists .entry)) rack lane number)
+        × (r ≡ codeOf racks lanes (now (lists .entry)) rack lane number) ⌝ }
 {
     let fit = lists_fit(racks, lanes, lists);
     if !fit {

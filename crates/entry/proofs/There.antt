@@ -1,23 +1,24 @@
 -- A place that is there lies in its log.
 use mathlib.Core.Path.{_≡_}
-use mathlib.Core.List.{List}
 use mathlib.Core.Bool.{true, false, _&&_}
 use Prim.Native.Nat.{ℕ, _<_}
 use borrow.Author.Tests.{ltb-true, leb-true, leb-false, lt-ltb, le-ltb, eqb-true}
 use lib.Dec.{ltb, leb, eqb}
+use Rattle.model.specs.Record.{Logs}
 use Rattle.laws.proofs.Cases.{and-true}
 use Rattle.model.specs.declared.Size.{Size}
-use Rattle.model.specs.Size.{sizeFits, logsLength}
+use Rattle.model.specs.Size.{sizeFits}
+use Rattle.model.specs.InUse.{logsLength}
 use Rattle.model.specs.Table.{logLength}
 use Rattle.model.specs.Logs.{isThere}
 use Rattle.sizes.specs.Lengths.{logsFit}
 
-pub record There (s : Size) (logs : List ℕ) (rack lane place : ℕ) : Type 0 where
+pub record There (s : Size) (logs : Logs) (rack lane place : ℕ) : Type 0 where
   pub rack-there : rack < s .racks
   pub lane-there : lane < s .lanes
   pub place-there : place < logLength s logs rack lane
 
-pub there : (s : Size) (logs : List ℕ) (rack lane place : ℕ) → isThere s logs rack lane place ≡ true → There s logs rack lane place
+pub there : (s : Size) (logs : Logs) (rack lane place : ℕ) → isThere s logs rack lane place ≡ true → There s logs rack lane place
 unfolding isThere
 there s logs rack lane place e =
     let a = and-true (ltb rack (s .racks)) (ltb lane (s .lanes) && ltb place (logLength s logs rack lane)) e in

@@ -4,6 +4,7 @@ ghost use Prim.Native.Nat.{_<_};
 ghost use lib.ListN.{length, replicate};
 ghost use lib.Dec.{ltb};
 ghost use mathlib.Core.Bool.{cond};
+ghost use Rattle.model.specs.InUse.{tablesOf, outcome};
 ghost use Rattle.model.specs.Record.{noValue};
 ghost use Rattle.model.specs.Fresh.{ownFirst, freshRack, freshRacks, zeroRack, filled};
 use model::Cell;
@@ -117,7 +118,8 @@ fn fresh_racks(size: Size) -> [Rack; 8]
 
 // Fills the three tables and hands back the racks, with 0; refused with 1 it leaves the tables as they were and hands back zeros.
 pub fn fresh(size: Size, cells: &mut [u8], logs: &mut [u8], decisions: &mut [u8]) -> Reply
-    ensures { λ r. ⌜ record { number = r .number; card = record { tables = record { cells = now (cells .exit); logs = now (logs .exit); decisions = now (decisions .exit) }; racks = r .racks } } ≡ filled size (record { cells = now (cells .entry); logs = now (logs .entry); decisions = now (decisions .entry) }) ⌝ }
+    ensures { λ r. ⌜ outcome (r .number) (now (cells .exit)) (now (logs .exit)) (now (decisions .exit)) (r .racks)
+        ≡ filled size (tablesOf (now (cells .entry)) (now (logs .entry)) (now (decisions .entry))) ⌝ }
 {
     let fine = sizes::lengths_fit(size, cells.len(), logs.len(), decisions.len());
     if !fine {

@@ -1,6 +1,5 @@
 -- What a log's length says of its records, and bounds of what is counted in a log.
 use mathlib.Core.Path.{_≡_, refl, ap, _∙_}
-use mathlib.Core.List.{List}
 use mathlib.Core.Bool.{Bool, true, false}
 use Prim.Native.Nat.{ℕ, zero, suc, _+_, _-_, _≤_, _<_}
 use native.Mathlib.Omega.{arith}
@@ -8,15 +7,15 @@ use native.Mathlib.Nat.{add-zero}
 use lib.Dec.{eqb}
 use Rattle.laws.proofs.Cases.{either, bool, lt-or-ge, clash-bool}
 use Rattle.model.specs.declared.Cue.{Cue}
-use Rattle.model.specs.Record.{noCue, sameCue, entryAt}
+use Rattle.model.specs.Record.{noCue, sameCue, Logs, entryAt}
 use Rattle.model.specs.Table.{lengthFrom}
 use Rattle.model.specs.Settle.{ownCues, lastEntry}
 
 -- record i is a zero one
-abbrev pub zeroAt : List ℕ → ℕ → Bool
+abbrev pub zeroAt : Logs → ℕ → Bool
 zeroAt table i = sameCue (entryAt table i) noCue
 
-module _ (table : List ℕ) where
+module _ (table : Logs) where
   -- no record is counted if the first is a zero one
   pub length-zero : (i most : ℕ) → zeroAt table i ≡ true → lengthFrom table i most ≡ 0
   unfolding lengthFrom
@@ -99,7 +98,7 @@ module _ (table : List ℕ) where
   last-there start (suc i) h = let e : suc i - 1 ≡ i = omega arith in rw e
 
 -- tables with the same records from i and from j on have the same length there
-pub length-same : (s t : List ℕ) (i j most : ℕ) → ((m : ℕ) → m < most → entryAt s (i + m) ≡ entryAt t (j + m))
+pub length-same : (s t : Logs) (i j most : ℕ) → ((m : ℕ) → m < most → entryAt s (i + m) ≡ entryAt t (j + m))
     → lengthFrom s i most ≡ lengthFrom t j most
 length-same s t i j most same =
     length-is s i most (lengthFrom t j most) (length-most t j most)

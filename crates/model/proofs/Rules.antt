@@ -13,7 +13,9 @@ use Rattle.model.specs.declared.Cue.{Cue}
 use Rattle.model.specs.declared.Value.{Value}
 use Rattle.model.specs.declared.Cell.{Cell}
 use Rattle.model.specs.declared.Rack.{Rack}
-use Rattle.model.specs.Record.{isCommitted, storeEntry}
+use Rattle.model.specs.Record.{isCommitted, Logs}
+use Rattle.model.specs.Form.{stored}
+use Rattle.model.specs.InUse.{logsOf}
 use Rattle.model.specs.Table.{resultAt, newsAt}
 use Rattle.model.specs.Settle.{Log, partLog, append, appendMissed, appendCommitted, settledLog, LogState, stateOf, ownNext, nextHeld, settledRack, Settled, settlePart}
 
@@ -59,15 +61,15 @@ module _ (rack : ℕ) (state : LogState) (result : Cell) where
 
 -- the log of so many entries that is lent by itself, and a cue stored behind them
 abbrev pub alone : List ℕ → ℕ → Log
-alone bytes length = record { table = bytes; start = 0; length = length }
+alone bytes length = record { table = logsOf bytes; start = 0; length = length }
 
-pub appended : {bytes′ : List ℕ} {l′ : ℕ} (bytes : List ℕ) (l : ℕ) (c : Cue) → bytes′ ≡ storeEntry bytes l c → l′ ≡ l + 1
+pub appended : {bytes′ : List ℕ} {l′ : ℕ} (bytes : List ℕ) (l : ℕ) (c : Cue) → bytes′ ≡ stored (logsOf bytes) l c → l′ ≡ l + 1
     → alone bytes′ l′ ≡ append (alone bytes l) c
 appended bytes l c e f = rw (zero-add, e, f, add-one)
 
 -- a lane is settled by the log that rules 1 and 2 leave, and by what is held then
-pub settled-part : {q : Rack} (bytes : List ℕ) (r : Rack) (lane rack : ℕ) (log : Log)
-    → log ≡ settledLog (partLog bytes) (resultAt r lane) (newsAt r lane) → q ≡ settledRack r lane rack (stateOf rack log)
-    → _≡_ {A = Settled} (record { logs = log .table; rack = q }) (settlePart bytes r lane rack)
+pub settled-part : {q : Rack} (part : Logs) (r : Rack) (lane rack : ℕ) (log : Log)
+    → log ≡ settledLog (partLog part) (resultAt r lane) (newsAt r lane) → q ≡ settledRack r lane rack (stateOf rack log)
+    → _≡_ {A = Settled} (record { logs = log .table; rack = q }) (settlePart part r lane rack)
 unfolding settlePart
-settled-part bytes r lane rack log e f = rw (f, e)
+settled-part part r lane rack log e f = rw (f, e)

@@ -5,7 +5,8 @@ use Prim.Native.Nat.{ℕ, _+_, _*_, _-_, _≤_, _<_}
 use native.Mathlib.Omega.{arith}
 use Rattle.laws.proofs.Index.{product-le}
 use Rattle.model.specs.declared.Size.{Size}
-use Rattle.model.specs.Size.{sizeFits, logsLength}
+use Rattle.model.specs.Size.{sizeFits}
+use Rattle.model.specs.InUse.{logsLength}
 use Rattle.model.specs.Table.{logStart}
 use Rattle.model.proofs.Sizes.{sizes}
 use Rattle.model.proofs.Table.{entry-fits}

@@ -5,7 +5,7 @@ use native.Mathlib.Omega.{arith}
 use native.Mathlib.Nat.{mul-comm, mul-assoc}
 use Rattle.laws.proofs.Index.{cell-below, same-row, same-column}
 use Rattle.model.specs.declared.Size.{Size}
-use Rattle.model.specs.Size.{records, cellsLength, logsLength, decisionsLength}
+use Rattle.model.specs.Size.{records, cellRecords, logRecords, decisionsLength}
 use Rattle.model.specs.Table.{cellIndex, logStart, decisionIndex}
 
 -- a section, a round, a lane and a rack that are there
@@ -27,8 +27,8 @@ module _ (s : Size) where
       (row-below round lane (p .round-low) (p .round-high) (p .lane-there)) (p .rack-there)
 
   -- a record of the cell table lies within it
-  pub index-fits : (section round lane rack : ℕ) → Spot s section round lane rack → 8 * cellIndex s section round lane rack + 8 ≤ cellsLength s
-  unfolding cellIndex cellsLength
+  pub index-fits : (section round lane rack : ℕ) → Spot s section round lane rack → cellIndex s section round lane rack < cellRecords s
+  unfolding cellIndex cellRecords
   index-fits section round lane rack p =
       let a = cell-below {i = section} {k = 3} {n = records s} (p .section-there) (spot-below section round lane rack p) in
       omega arith
@@ -82,8 +82,8 @@ module _ (s : Size) where
 
   -- the entries of a log lie within the log table, and those of two logs are apart
   pub entry-fits : (rack lane place : ℕ) → rack < s .racks → lane < s .lanes → place < s .rounds
-      → 2 * (logStart s rack lane + place) + 2 ≤ logsLength s
-  unfolding logStart logsLength
+      → logStart s rack lane + place < logRecords s
+  unfolding logStart logRecords
   entry-fits rack lane place a b c =
       let p = cell-below {i = rack} {k = s .racks} {r = lane} {n = s .lanes} a b in
       let q = cell-below {i = rack * s .lanes + lane} {k = s .racks * s .lanes} {r = place} {n = s .rounds} p c in

@@ -8,10 +8,11 @@ use lib.ListN.{replicate}
 use Rattle.model.specs.declared.Size.{Size}
 use Rattle.model.specs.declared.Value.{Value}
 use Rattle.model.specs.declared.Rack.{Rack}
-use Rattle.model.specs.Size.{cellsLength, logsLength, decisionsLength}
+use Rattle.model.specs.Size.{decisionsLength}
 use Rattle.model.specs.Record.{noCue, noValue, noCell}
 use Rattle.model.specs.Table.{Tables, Card, undecided, noLane}
 use Rattle.model.specs.Turn.{Outcome, fits}
+use Rattle.model.specs.InUse.{cellsLength, logsLength, tablesOf}
 
 -- a list by its elements
 unfoldable pub table : {A : Type 0} → ℕ → (ℕ → A) → List A
@@ -51,11 +52,7 @@ zeroRack =
 
 abbrev pub freshTables : Size → Tables
 freshTables s =
-    record {
-      cells = replicate (cellsLength s) 0;
-      logs = replicate (logsLength s) 0;
-      decisions = replicate (decisionsLength s) undecided;
-    }
+    tablesOf (replicate (cellsLength s) 0) (replicate (logsLength s) 0) (replicate (decisionsLength s) undecided)
 
 abbrev pub freshRacks : Size → List Rack
 freshRacks s = table 8 (λ rack. cond (ltb rack (s .racks)) (freshRack s rack) zeroRack)

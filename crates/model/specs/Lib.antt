@@ -1,5 +1,7 @@
 pub mod Size
+pub mod Form
 pub mod Record
+pub mod Narrow
 pub mod Table
 pub mod Shape
 pub mod Kind
@@ -8,6 +10,7 @@ pub mod Settle
 pub mod Step
 pub mod Sound
 pub mod Turn
+pub mod InUse
 pub mod Fresh
 pub mod Logs
 pub mod Cues

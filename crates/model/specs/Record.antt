@@ -1,13 +1,11 @@
--- The bytes of each record.
-use mathlib.Core.List.{List, [], _∷_}
+-- What a record says, and the tables of such records.
 use mathlib.Core.Bool.{Bool, _&&_}
-use Prim.Native.Nat.{ℕ, _*_}
-use lib.ListN.{getD, drop}
-use lib.Seq.{sets}
+use Prim.Native.Nat.{ℕ}
 use lib.Dec.{eqb}
 use Rattle.model.specs.declared.Cue.{Cue}
 use Rattle.model.specs.declared.Value.{Value}
 use Rattle.model.specs.declared.Cell.{Cell}
+use Rattle.model.specs.Form.{Table, recordAt, store}
 
 abbrev pub noCue : Cue
 noCue = record { issuer = 0; number = 0 }
@@ -45,46 +43,21 @@ sameValue a b = eqb (a .place) (b .place) && (sameCue (a .cue) (b .cue) && sameC
 unfoldable pub sameCell : Cell → Cell → Bool
 sameCell a b = eqb (a .mark) (b .mark) && sameValue (a .value) (b .value)
 
--- "A cell record: mark .., place, issuer, number, previous issuer, previous number, two zero bytes."
-unfoldable pub cellBytes : Cell → List ℕ
-cellBytes c =
-    c .mark
-    ∷ c .value .place
-    ∷ c .value .cue .issuer
-    ∷ c .value .cue .number
-    ∷ c .value .previous .issuer
-    ∷ c .value .previous .number
-    ∷ 0
-    ∷ 0
-    ∷ []
+-- the lent tables of cells and of logs
+abbrev pub Cells : Type 0
+Cells = Table Cell noCell
 
--- the cell whose record these bytes begin with
-abbrev pub cellOf : List ℕ → Cell
-cellOf bytes =
-    record {
-      mark = getD bytes 0 0;
-      value =
-          record {
-            place = getD bytes 1 0;
-            cue = record { issuer = getD bytes 2 0; number = getD bytes 3 0 };
-            previous = record { issuer = getD bytes 4 0; number = getD bytes 5 0 };
-          };
-    }
+abbrev pub Logs : Type 0
+Logs = Table Cue noCue
 
--- record i of a table of "8-byte records, no header"
-unfoldable pub cellAt : List ℕ → ℕ → Cell
-cellAt table i = cellOf (drop (8 * i) table)
+abbrev pub cellAt : Cells → ℕ → Cell
+cellAt cells i = recordAt cells i
 
-unfoldable pub storeCell : List ℕ → ℕ → Cell → List ℕ
-storeCell table i c = sets table (8 * i) (cellBytes c)
+abbrev pub storeCell : Cells → ℕ → Cell → Cells
+storeCell cells i c = store cells i c
 
--- "spare bytes are zero": those of the record that these bytes begin with
-abbrev pub spareZero : List ℕ → Bool
-spareZero bytes = eqb (getD bytes 6 0) 0 && eqb (getD bytes 7 0) 0
+abbrev pub entryAt : Logs → ℕ → Cue
+entryAt logs i = recordAt logs i
 
--- "records of issuer and number"
-unfoldable pub entryAt : List ℕ → ℕ → Cue
-entryAt table i = let bytes = drop (2 * i) table in record { issuer = getD bytes 0 0; number = getD bytes 1 0 }
-
-unfoldable pub storeEntry : List ℕ → ℕ → Cue → List ℕ
-storeEntry table i c = sets table (2 * i) (c .issuer ∷ c .number ∷ [])
+abbrev pub storeEntry : Logs → ℕ → Cue → Logs
+storeEntry logs i c = store logs i c

@@ -7,21 +7,28 @@ use Rattle.model.specs.declared.Size.{Size}
 abbrev pub within : ℕ → ℕ → ℕ → Bool
 within low high x = leb low x && leb x high
 
+-- "n racks, 1 to 8. k lanes, 1 to 4.", and rounds, 1 to as many as the form of the records allows
+unfoldable pub sizeUpTo : ℕ → Size → Bool
+sizeUpTo most s = within 1 8 (s .racks) && (within 1 4 (s .lanes) && within 1 most (s .rounds))
+
+abbrev pub mostRounds : ℕ
+mostRounds = 64
+
 -- "n racks, 1 to 8. k lanes, 1 to 4. R rounds, 1 to 64."
-unfoldable pub sizeFits : Size → Bool
-sizeFits s = within 1 8 (s .racks) && (within 1 4 (s .lanes) && within 1 64 (s .rounds))
+abbrev pub sizeFits : Size → Bool
+sizeFits s = sizeUpTo mostRounds s
 
 -- how many records a section of the cell table has, and how many the log table
 abbrev pub records : Size → ℕ
 records s = s .rounds * s .lanes * s .racks
 
--- "Cell table: exactly 24·R·k·n bytes."
-unfoldable pub cellsLength : Size → ℕ
-cellsLength s = 24 * records s
+-- "It has three sections (offers, first cells, second cells)"
+unfoldable pub cellRecords : Size → ℕ
+cellRecords s = 3 * records s
 
--- "Log table: 2·R·k·n bytes"
-unfoldable pub logsLength : Size → ℕ
-logsLength s = 2 * records s
+-- "records of issuer and number, R per lane, the lanes of rack 0 first"
+unfoldable pub logRecords : Size → ℕ
+logRecords s = records s
 
 -- "Decision table: R·k bytes"
 unfoldable pub decisionsLength : Size → ℕ

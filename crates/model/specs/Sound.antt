@@ -11,7 +11,8 @@ use Rattle.model.specs.declared.Value.{Value}
 use Rattle.model.specs.declared.Cell.{Cell}
 use Rattle.model.specs.declared.Rack.{Rack}
 use Rattle.model.specs.Size.{within, records, leading, blockSteps, roundSteps}
-use Rattle.model.specs.Record.{noCue, noValue, noCell, isEmpty, sameCue, sameValue, sameCell, cellOf, spareZero, entryAt}
+use Rattle.model.specs.Form.{spareAt}
+use Rattle.model.specs.Record.{noCue, noValue, noCell, isEmpty, sameCue, sameValue, sameCell, Cells, Logs, entryAt}
 use Rattle.model.specs.Table.{Tables, Card, offers, firstCells, secondCells, logStart, logLength, undecided, noLane, decisionAt, rackAt, heldAt, resultAt, newsAt, firstAt, secondAt, cellNow}
 use Rattle.model.specs.Kind.{laneAt, stepsIn, firstsRead, secondsRead}
 
@@ -45,15 +46,15 @@ module _ (s : Size) where
   soundCell section c = cond (isEmpty c) (sameValue (c .value) noValue) (markFits section (c .mark) && soundValue (c .value))
 
   -- a record of the cell table: "and spare bytes are zero"
-  unfoldable pub soundRecord : List ℕ → ℕ → ℕ → Bool
+  unfoldable pub soundRecord : Cells → ℕ → ℕ → Bool
   soundRecord cells section i =
-      let bytes = drop (8 * i) cells in
-      soundCell section (cellOf bytes) && spareZero bytes
+      let bytes = drop (cells .form .width * i) (cells .bytes) in
+      soundCell section (cells .form .read bytes) && cells .form .spare bytes
 
-  unfoldable pub soundSection : List ℕ → ℕ → Bool
+  unfoldable pub soundSection : Cells → ℕ → Bool
   soundSection cells section = below (records s) (λ i. soundRecord cells section (section * records s + i))
 
-  unfoldable pub soundCells : List ℕ → Bool
+  unfoldable pub soundCells : Cells → Bool
   soundCells cells = soundSection cells offers && (soundSection cells firstCells && soundSection cells secondCells)
 
   -- "decisions are 255 or below n"
@@ -62,14 +63,15 @@ module _ (s : Size) where
       below (s .rounds * s .lanes) (λ i. eqb (getD decisions i 0) undecided || ltb (getD decisions i 0) (s .racks))
 
   -- "used entries have issuer below n and number 1 to R + 1, unused ones are zero"
-  unfoldable pub soundEntries : List ℕ → ℕ → ℕ → Bool
+  unfoldable pub soundEntries : Logs → ℕ → ℕ → Bool
   soundEntries logs start length =
-      below (s .rounds) (λ i. cond (ltb i length) (soundCue (entryAt logs (start + i))) (sameCue (entryAt logs (start + i)) noCue))
+      below (s .rounds) (λ i.
+      cond (ltb i length) (soundCue (entryAt logs (start + i))) (sameCue (entryAt logs (start + i)) noCue) && spareAt logs (start + i))
 
-  unfoldable pub soundLog : List ℕ → ℕ → ℕ → Bool
+  unfoldable pub soundLog : Logs → ℕ → ℕ → Bool
   soundLog logs rack lane = soundEntries logs (logStart s rack lane) (logLength s logs rack lane)
 
-  unfoldable pub soundLogs : List ℕ → Bool
+  unfoldable pub soundLogs : Logs → Bool
   soundLogs logs = below (s .racks) (λ rack. below (s .lanes) (λ lane. soundLog logs rack lane))
 
   -- "round is 1 to R + 1, with step 0 at R + 1; step is below 2 + k(2n + 2)"
@@ -89,13 +91,13 @@ module _ (s : Size) where
       && below 8 (λ i. cond (ltb i (secondsRead s r)) (soundCell secondCells (secondAt r i)) (sameCell (secondAt r i) noCell))
 
   -- "a rack's first lane is decided, for a source whose offer there is not empty"
-  unfoldable pub soundChoice : List ℕ → List ℕ → Rack → Bool
+  unfoldable pub soundChoice : Cells → List ℕ → Rack → Bool
   soundChoice cells decisions r =
       let source = decisionAt s decisions (r .round) (r .first) in
       ltb (r .step) leading
       || (not (eqb source undecided) && not (isEmpty (cellNow s cells r offers (r .first) source)))
 
-  module _ (cells : List ℕ) (rack : ℕ) (r : Rack) where
+  module _ (cells : Cells) (rack : ℕ) (r : Rack) where
     -- "what it read back from itself equals them"
     unfoldable pub soundReadBack : Bool
     soundReadBack =
@@ -117,10 +119,10 @@ module _ (s : Size) where
       (sameCell (resultAt r lane) noCell && sameValue (newsAt r lane) noValue)
 
   -- "held place equals log length"
-  unfoldable pub soundHeld : List ℕ → ℕ → Rack → ℕ → Bool
+  unfoldable pub soundHeld : Logs → ℕ → Rack → ℕ → Bool
   soundHeld logs rack r lane = soundValue (heldAt r lane) && eqb (heldAt r lane .place) (logLength s logs rack lane)
 
-  unfoldable pub soundLane : List ℕ → List ℕ → ℕ → Rack → ℕ → Bool
+  unfoldable pub soundLane : Cells → Logs → ℕ → Rack → ℕ → Bool
   soundLane cells logs rack r lane =
       cond (ltb lane (s .lanes))
       (soundWritten cells rack r lane && (soundOutcome r lane && soundHeld logs rack r lane))

@@ -1,6 +1,7 @@
 // The card's types, all by value. What is done with them is defined in specs/, in the words of document 01. The one method settles a lane, since a
 // method stands beside its type; so the logs that it appends to stand here too.
 ghost use mathlib.Core.Path.{_≡_};
+ghost use Rattle.model.specs.InUse.{logsOf};
 ghost use Rattle.model.specs.Settle.{PartLent, settlePart};
 
 pub mod logs; // logs.rt: logs in a lent table
@@ -50,8 +51,8 @@ pub struct Rack {
 impl Rack {
     // One lane settled: its log is lent and appended to, and the rack comes back with what it holds next.
     pub fn settle(mut self, log: &mut [u8], lane: usize, rack: u8) -> Rack
-        requires { ⌜ PartLent (now log) self lane ⌝ }
-        ensures { λ q. ⌜ record { logs = now (log .exit); rack = q } ≡ settlePart (now (log .entry)) self lane rack ⌝ }
+        requires { ⌜ PartLent (logsOf (now log)) self lane ⌝ }
+        ensures { λ q. ⌜ record { logs = logsOf (now (log .exit)); rack = q } ≡ settlePart (logsOf (now (log .entry))) self lane rack ⌝ }
     {
         let news = self.news[lane];
         let result = self.results[lane];

@@ -4,7 +4,9 @@ ghost use Prim.Native.Nat.{_+_, _*_, _≤_, _<_};
 ghost use lib.ListN.{length};
 ghost use lib.Dec.{eqb};
 ghost use mathlib.Core.Bool.{cond, true};
-ghost use Rattle.model.specs.Record.{noCue, sameCue, entryAt, storeEntry};
+ghost use Rattle.model.specs.Record.{noCue, sameCue, entryAt};
+ghost use Rattle.model.specs.Form.{stored};
+ghost use Rattle.model.specs.InUse.{logsOf};
 ghost use Rattle.model.specs.Size.{sizeFits};
 ghost use Rattle.model.specs.Table.{lengthFrom, logStart};
 ghost use Rattle.model.specs.Settle.{ownCues, lastEntry};
@@ -14,7 +16,7 @@ use crate::Size;
 // One of the "records of issuer and number".
 pub fn entry(table: &[u8], at: usize) -> Cue
     requires { ⌜ 2 * at + 2 ≤ length (now table) ⌝ }
-    ensures { λ c. ⌜ c ≡ entryAt (now (table .entry)) at ⌝ }
+    ensures { λ c. ⌜ c ≡ entryAt (logsOf (now (table .entry))) at ⌝ }
 {
     let b = 2 * at;
     Cue {
@@ -26,7 +28,7 @@ pub fn entry(table: &[u8], at: usize) -> Cue
 // Writes one record.
 pub fn store(table: &mut [u8], at: usize, c: Cue)
     requires { ⌜ 2 * at + 2 ≤ length (now table) ⌝ }
-    ensures { λ _. ⌜ now (table .exit) ≡ storeEntry (now (table .entry)) at c ⌝ }
+    ensures { λ _. ⌜ now (table .exit) ≡ stored (logsOf (now (table .entry))) at c ⌝ }
 {
     let b = 2 * at;
     table[b] = c.issuer;
@@ -36,7 +38,7 @@ pub fn store(table: &mut [u8], at: usize, c: Cue)
 // Whether a record is a zero one.
 fn zero_at(table: &[u8], at: usize) -> bool
     requires { ⌜ 2 * at + 2 ≤ length (now table) ⌝ }
-    ensures { λ r. ⌜ r ≡ sameCue (entryAt (now (table .entry)) at) noCue ⌝ }
+    ensures { λ r. ⌜ r ≡ sameCue (entryAt (logsOf (now (table .entry))) at) noCue ⌝ }
 {
     let c = entry(table, at);
     let issuer = c.issuer == 0;
@@ -47,7 +49,7 @@ fn zero_at(table: &[u8], at: usize) -> bool
 // "a log's length is the number of its records before the first zero one": of the records from `at` on, at most `most`.
 pub fn length_from(table: &[u8], at: usize, most: usize) -> usize
     requires { ⌜ 2 * (at + most) ≤ length (now table) ⌝ }
-    ensures { λ r. ⌜ r ≡ lengthFrom (now (table .entry)) at most ⌝ }
+    ensures { λ r. ⌜ r ≡ lengthFrom (logsOf (now (table .entry))) at most ⌝ }
 {
     let mut i: usize = 0;
     while i < most {
@@ -63,7 +65,7 @@ pub fn length_from(table: &[u8], at: usize, most: usize) -> usize
 // 1 if a record's issuer is the rack, else 0.
 fn own_at(table: &[u8], at: usize, rack: u8) -> u8
     requires { ⌜ 2 * at + 2 ≤ length (now table) ⌝ }
-    ensures { λ r. ⌜ r ≡ cond (eqb (entryAt (now (table .entry)) at .issuer) rack) 1 0 ⌝ }
+    ensures { λ r. ⌜ r ≡ cond (eqb (entryAt (logsOf (now (table .entry))) at .issuer) rack) 1 0 ⌝ }
 {
     let c = entry(table, at);
     if c.issuer == rack {
@@ -75,7 +77,7 @@ fn own_at(table: &[u8], at: usize, rack: u8) -> u8
 // "the count of its own cues in this log": of the `count` records from `start` on, those that the rack issued.
 pub fn own_cues(table: &[u8], start: usize, rack: u8, count: usize) -> u8
     requires { ⌜ (2 * (start + count) ≤ length (now table)) × (count ≤ 64) ⌝ }
-    ensures { λ r. ⌜ r ≡ ownCues (now (table .entry)) start rack count ⌝ }
+    ensures { λ r. ⌜ r ≡ ownCues (logsOf (now (table .entry))) start rack count ⌝ }
 {
     let mut own: u8 = 0;
     for i in 0..count {
@@ -88,7 +90,7 @@ pub fn own_cues(table: &[u8], start: usize, rack: u8, count: usize) -> u8
 // "the last entry, or zeros at L = 0", of the `count` records from `start` on.
 pub fn last_entry(table: &[u8], start: usize, count: usize) -> Cue
     requires { ⌜ 2 * (start + count) ≤ length (now table) ⌝ }
-    ensures { λ c. ⌜ c ≡ lastEntry (now (table .entry)) start count ⌝ }
+    ensures { λ c. ⌜ c ≡ lastEntry (logsOf (now (table .entry))) start count ⌝ }
 {
     if count == 0 {
         return Cue {

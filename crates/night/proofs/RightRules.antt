@@ -12,9 +12,10 @@ use Rattle.model.specs.declared.Rack.{Rack}
 use Rattle.model.specs.declared.Kind.{Kind}
 use Rattle.model.specs.declared.Kind.the-variants.{Offer, Answer, FirstWrite, FirstRead, SecondWrite, SecondRead}
 use Rattle.model.specs.Size.{sizeFits}
+use Rattle.model.specs.Record.{Logs}
 use Rattle.model.specs.Table.{Tables, Card, rackAt}
 use Rattle.model.specs.Kind.{kindOf}
-use Rattle.model.specs.Settle.{appendMissed, appendCommitted, nextHeld, settledRack, laneLog, settleLane, settleLanes}
+use Rattle.model.specs.Settle.{appendMissed, appendCommitted, nextHeld, settledRack, laneLog, Settled, settleLane, settleLanes}
 use Rattle.model.specs.Step.{After, proposal, firstWritten, afterFirstRead, secondWritten, secondGathered, blockEnded, afterSecondRead, settled, secondReadTaken, stepBy, stepped, step}
 use Rattle.model.specs.Turn.{Outcome, badRecord, rackOf, laneNamed, sourceNamed, refusalOf, turned}
 use Rattle.model.specs.Fresh.{freshCard}
@@ -28,15 +29,16 @@ use Rattle.night.proofs.Demand.Room.{not-overfull}
 use Rattle.night.proofs.Demand.Demands.{tie}
 
 module _ (s : Size) (rack : ℕ) where
-  lane-right : (logs : List ℕ) (r : Rack) (lane : ℕ) → laneBy rules01 s rack logs r lane ≡ settleLane s rack logs r lane
+  lane-right : (logs : Logs) (r : Rack) (lane : ℕ) → laneBy rules01 s rack logs r lane ≡ settleLane s rack logs r lane
   unfolding laneBy settleLane laneLog appendMissed appendCommitted settledRack nextHeld
   lane-right logs r lane = refl
 
-  lanes-right : (logs : List ℕ) (r : Rack) (count : ℕ) → lanesBy rules01 s rack logs r count ≡ settleLanes s rack logs r count
+  lanes-right : (logs : Logs) (r : Rack) (count : ℕ) → lanesBy rules01 s rack logs r count ≡ settleLanes s rack logs r count
   unfolding lanesBy settleLanes
   lanes-right logs r zero = refl
   lanes-right logs r (suc lane) =
-      rw (lanes-right logs r lane) (lane-right (settleLanes s rack logs r lane .logs) (settleLanes s rack logs r lane .rack) lane)
+      ap (λ (d : Settled). laneBy rules01 s rack (d .logs) (d .rack) lane) (lanes-right logs r lane)
+      ∙ (lane-right (settleLanes s rack logs r lane .logs) (settleLanes s rack logs r lane .rack) lane)
 
   steps-right : (t : Tables) (r : Rack) (kind : Kind) (m q : ℕ) → stepWith rules01 s rack t r kind m q ≡ stepBy s t rack r kind m q
   unfolding stepWith stepBy firstWritten proposal afterFirstRead secondWritten secondReadTaken settled readBy afterSecondRead secondGathered blockEnded

@@ -12,7 +12,7 @@ use Rattle.model.specs.declared.Rack.{Rack}
 use Rattle.model.specs.declared.Kind.the-variants.{SecondRead}
 use Rattle.model.specs.declared.Entry.the-variants.{Found, Refused}
 use Rattle.model.specs.Size.{sizeFits, blockSteps, roundSteps}
-use Rattle.model.specs.Record.{noCell, offered, isEmpty, isCommitted}
+use Rattle.model.specs.Record.{noCell, offered, isEmpty, isCommitted, Cells}
 use Rattle.model.specs.Table.{Card, offers, firstCells, readCell, logLength, undecided, decisionAt, rackAt, resultAt, newsAt}
 use Rattle.model.specs.Kind.{kindOf, placeAt, laneAt, secondRead, stepsIn}
 use Rattle.model.specs.Step.{afterSecondRead}
@@ -34,7 +34,7 @@ module _ (M : Machine) (s : Size) (turns : List (List ℕ)) where
 
   -- the cells and the rack before that turn
   module _ {rack round : ℕ} (at : Takes rack round) where
-    abbrev pub cellsThen : List ℕ
+    abbrev pub cellsThen : Cells
     cellsThen = reached M s (at .before) .tables .cells
 
     abbrev pub rackThen : Rack

@@ -1,9 +1,10 @@
 -- A machine of the card's types, and what happens on it in a night.
 use mathlib.Core.List.{List, [], _∷_}
 use mathlib.Core.Bool.{cond, _&&_}
-use Prim.Native.Nat.{ℕ, zero, suc, _+_, _*_, _-_}
+use Prim.Native.Nat.{ℕ, zero, suc, _+_, _-_}
 use lib.Dec.{eqb}
 use lib.ListN.{take, drop}
+use Rattle.model.specs.Form.{lengthOf}
 use Rattle.model.specs.declared.Size.{Size}
 use Rattle.model.specs.declared.Cue.{Cue}
 use Rattle.model.specs.declared.Entry.{Entry}
@@ -62,7 +63,7 @@ module _ (M : Machine) (s : Size) where
 
   -- a log's bytes
   unfoldable pub logBytes : Card → ℕ → ℕ → List ℕ
-  logBytes c rack lane = take (2 * M .length s c rack lane) (drop (2 * logStart s rack lane) (c .tables .logs))
+  logBytes c rack lane = take (lengthOf (c .tables .logs) (M .length s c rack lane)) (drop (lengthOf (c .tables .logs) (logStart s rack lane)) (c .tables .logs .bytes))
 
   -- the entry at a place of a log
   abbrev pub entryOf : Card → ℕ → ℕ → ℕ → Cue

@@ -1,7 +1,8 @@
 -- All rules opened: whoever unfolds `rules` computes with them.
 use mathlib.Core.List.{flatten}
-use Rattle.model.specs.Size.{sizeFits, cellsLength, logsLength, decisionsLength, blockSteps, roundSteps}
-use Rattle.model.specs.Record.{sameCue, sameValue, sameCell, cellBytes, cellAt, storeCell, entryAt, storeEntry}
+use Rattle.model.specs.Size.{sizeUpTo, cellRecords, logRecords, decisionsLength, blockSteps, roundSteps}
+use Rattle.model.specs.Form.{recordAt, spareAt, stored}
+use Rattle.model.specs.Record.{sameCue, sameValue, sameCell}
 use Rattle.model.specs.Table.{cellIndex, logStart, lengthFrom, decisionIndex}
 use Rattle.model.specs.Kind.{blockAt, placeAt, kindIn, kindOf, laneOf, blockOf, stepsIn, firstsRead, secondsRead}
 use Rattle.model.specs.Block.{equalsOwn, higher, greatest, secondCell, backsOwn, sooner, firstCommitted, adoptedValue, result, newer, newest, news}
@@ -17,5 +18,5 @@ use mathlib.Core.Bool.{Bool, true}
 
 unfoldable pub rules : Bool
 unfolding
-    flatten sizeFits cellsLength logsLength decisionsLength blockSteps roundSteps sameCue sameValue sameCell cellBytes cellAt storeCell entryAt storeEntry cellIndex logStart lengthFrom decisionIndex blockAt placeAt kindIn kindOf laneOf blockOf stepsIn firstsRead secondsRead equalsOwn higher greatest secondCell backsOwn sooner firstCommitted adoptedValue result newer newest news appendMissed appendCommitted ownCues lastEntry ownNext nextHeld settledRack laneLog settleLane settleLanes tooLong offersOf proposal firstWritten afterFirstRead secondWritten secondGathered blockEnded afterSecondRead isLast answered settled secondReadTaken stepBy stepped step soundCue soundValue markFits soundCell soundRecord soundSection soundCells soundDecisions soundEntries soundLog soundLogs soundClock soundFirst soundGathered soundChoice soundReadBack soundWritten soundOutcome soundHeld unusedLane soundLane soundRack unusedRack soundState soundRacks soundTables sound fits badRecord finished misnamed notOffered decidedElse overfull refusalOf refusal turned soundness table freshCard filled listsLength listsFit listStart codeAt badCue listed addCue codeIn after replies pieces sizeGiven loadCues badSizeLine badCuesLine sizeLine refusedLine refusedLines takenIn turnsLine logLine entryLine lineAt entryLines logLines laneLines rackLines nightText sheet
+    flatten sizeUpTo cellRecords logRecords decisionsLength blockSteps roundSteps sameCue sameValue sameCell recordAt spareAt stored cellIndex logStart lengthFrom decisionIndex blockAt placeAt kindIn kindOf laneOf blockOf stepsIn firstsRead secondsRead equalsOwn higher greatest secondCell backsOwn sooner firstCommitted adoptedValue result newer newest news appendMissed appendCommitted ownCues lastEntry ownNext nextHeld settledRack laneLog settleLane settleLanes tooLong offersOf proposal firstWritten afterFirstRead secondWritten secondGathered blockEnded afterSecondRead isLast answered settled secondReadTaken stepBy stepped step soundCue soundValue markFits soundCell soundRecord soundSection soundCells soundDecisions soundEntries soundLog soundLogs soundClock soundFirst soundGathered soundChoice soundReadBack soundWritten soundOutcome soundHeld unusedLane soundLane soundRack unusedRack soundState soundRacks soundTables sound fits badRecord finished misnamed notOffered decidedElse overfull refusalOf refusal turned soundness table freshCard filled listsLength listsFit listStart codeAt badCue listed addCue codeIn after replies pieces sizeGiven loadCues badSizeLine badCuesLine sizeLine refusedLine refusedLines takenIn turnsLine logLine entryLine lineAt entryLines logLines laneLines rackLines nightText sheet
 rules = true

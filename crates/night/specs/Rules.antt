@@ -10,7 +10,7 @@ use Rattle.model.specs.declared.Cell.{Cell}
 use Rattle.model.specs.declared.Rack.{Rack}
 use Rattle.model.specs.declared.Kind.{Kind}
 use Rattle.model.specs.declared.Kind.the-variants.{Offer, Answer, FirstWrite, FirstRead, SecondWrite, SecondRead}
-use Rattle.model.specs.Record.{offered, isCommitted}
+use Rattle.model.specs.Record.{offered, isCommitted, Logs}
 use Rattle.model.specs.Table.{Tables, Card, offers, firstCells, secondCells, writeCell, decisionAt, rackAt, heldAt, resultAt, newsAt, cellNow}
 use Rattle.model.specs.Kind.{blockAt, placeAt, kindOf, laneOf, firstRead, secondRead}
 use Rattle.model.specs.Block.{secondCell, result, news}
@@ -51,7 +51,7 @@ module _ (rules : Rules) (s : Size) (rack : ℕ) where
   heldBy log c =
       cond (rules .again c || eqb (c .value .place) (log .length)) (c .value) (ownNext rack (stateOf rack log))
 
-  unfoldable pub laneBy : List ℕ → Rack → ℕ → Settled
+  unfoldable pub laneBy : Logs → Rack → ℕ → Settled
   laneBy logs r lane =
       let log =
       committedBy (missedBy (logOf s logs rack lane) (heldAt r lane) (resultAt r lane) (newsAt r lane)) (heldAt r lane)
@@ -59,7 +59,7 @@ module _ (rules : Rules) (s : Size) (rack : ℕ) where
       in
       record { logs = log .table; rack = holding r lane (heldBy log (resultAt r lane)) }
 
-  unfoldable pub lanesBy : List ℕ → Rack → ℕ → Settled
+  unfoldable pub lanesBy : Logs → Rack → ℕ → Settled
   lanesBy logs r zero = record { logs = logs; rack = r }
   lanesBy logs r (suc lane) = let done = lanesBy logs r lane in laneBy (done .logs) (done .rack) lane
 

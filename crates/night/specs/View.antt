@@ -13,7 +13,7 @@ use Rattle.model.specs.declared.Value.{Value}
 use Rattle.model.specs.declared.Cell.{Cell}
 use Rattle.model.specs.declared.Rack as card
 use Rattle.model.specs.Size.{blockSteps}
-use Rattle.model.specs.Record.{noCue, noValue, noCell, offered, adopted, committed, entryAt}
+use Rattle.model.specs.Record.{noCue, noValue, noCell, offered, adopted, committed, entryAt, Logs}
 use Rattle.model.specs.Table.{Card, offers, firstCells, secondCells, readCell, logStart, logLength, undecided, noLane, decisionAt, rackAt, heldAt, resultAt, newsAt, firstAt, secondAt}
 use Rattle.model.specs.Kind.{laneAt}
 use Rattle.model.specs.Turn.{rackOf, laneNamed, sourceNamed, turned}
@@ -46,7 +46,7 @@ abbrev pub entryIn : Log → ℕ → Cue
 entryIn start place = noCue
 entryIn (l ▷ c) place = cond (eqb place (size l)) c (entryIn l place)
 
-pub record LogView (s : Size) (logs : List ℕ) (rack lane : ℕ) (log : Log) : Type 0 where
+pub record LogView (s : Size) (logs : Logs) (rack lane : ℕ) (log : Log) : Type 0 where
   pub length : logLength s logs rack lane ≡ size log
   pub entries : (place : ℕ) → place < size log → entryAt logs (logStart s rack lane + place) ≡ entryIn log place
 

@@ -1,6 +1,7 @@
 // The inner turn: a turn on tables that are known to be sound.
 ghost use mathlib.Core.Path.{_≡_};
 ghost use mathlib.Core.Bool.{false};
+ghost use Rattle.model.specs.InUse.{tablesOf, cardOf, afterOf, outcome};
 ghost use Rattle.model.specs.Turn.{badRecord, rackOf, turned};
 ghost use Rattle.step.specs.Ready.{Tested};
 ghost use Rattle.play.specs.Playable.{Playable};
@@ -47,8 +48,9 @@ pub fn play_rack(
     r: Rack,
     turn: &[u8],
 ) -> Played
-    requires { ⌜ (badRecord size (now turn) ≡ false → Tested size (record { cells = now cells; logs = now logs; decisions = now decisions }) (rackOf (now turn)) r) ⌝ }
-    ensures { λ p. ⌜ record { number = p .number; after = record { tables = record { cells = now (cells .exit); logs = now (logs .exit); decisions = now (decisions .exit) }; rack = p .rack } } ≡ rackTurned size (record { cells = now (cells .entry); logs = now (logs .entry); decisions = now (decisions .entry) }) r (now (turn .entry)) ⌝ }
+    requires { ⌜ (badRecord size (now turn) ≡ false → Tested size (tablesOf (now cells) (now logs) (now decisions)) (rackOf (now turn)) r) ⌝ }
+    ensures { λ p. ⌜ record { number = p .number; after = afterOf (now (cells .exit)) (now (logs .exit)) (now (decisions .exit)) (p .rack) }
+        ≡ rackTurned size (tablesOf (now (cells .entry)) (now (logs .entry)) (now (decisions .entry))) r (now (turn .entry)) ⌝ }
 {
     let bad = bad_record(size, turn);
     if bad {
@@ -77,8 +79,9 @@ pub fn play(
     racks: [Rack; 8],
     turn: &[u8],
 ) -> Reply
-    requires { ⌜ Playable size (record { tables = record { cells = now cells; logs = now logs; decisions = now decisions }; racks = racks }) ⌝ }
-    ensures { λ r. ⌜ record { number = r .number; card = record { tables = record { cells = now (cells .exit); logs = now (logs .exit); decisions = now (decisions .exit) }; racks = r .racks } } ≡ turned size (record { tables = record { cells = now (cells .entry); logs = now (logs .entry); decisions = now (decisions .entry) }; racks = racks }) (now (turn .entry)) ⌝ }
+    requires { ⌜ Playable size (cardOf (now cells) (now logs) (now decisions) racks) ⌝ }
+    ensures { λ r. ⌜ outcome (r .number) (now (cells .exit)) (now (logs .exit)) (now (decisions .exit)) (r .racks)
+        ≡ turned size (cardOf (now (cells .entry)) (now (logs .entry)) (now (decisions .entry)) racks) (now (turn .entry)) ⌝ }
 {
     let rack = rack_named(size, turn);
     let r = racks[rack];

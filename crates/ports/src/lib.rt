@@ -1,6 +1,7 @@
 // What a firmware links: the public calls under C names. Sizes are whole numbers, so that every one can be handed over and is judged by the
 // call below; the eight racks cross in a struct, since an exported function takes no bare array.
 ghost use mathlib.Core.Path.{_≡_};
+ghost use Rattle.model.specs.InUse.{logsOf, tablesOf, cardOf, outcome};
 ghost use Rattle.model.specs.Turn.{turned, soundness};
 ghost use Rattle.model.specs.Fresh.{filled};
 ghost use Rattle.model.specs.Logs.{logEntry, agree};
@@ -56,7 +57,8 @@ pub extern "C" fn night_fresh(
     logs: &mut [u8],
     decisions: &mut [u8],
 ) -> Answer
-    ensures { λ r. ⌜ record { number = r .number; card = record { tables = record { cells = now (cells .exit); logs = now (logs .exit); decisions = now (decisions .exit) }; racks = r .racks .rack } } ≡ filled (record { racks = n; lanes = k; rounds = rounds }) (record { cells = now (cells .entry); logs = now (logs .entry); decisions = now (decisions .entry) }) ⌝ }
+    ensures { λ r. ⌜ outcome (r .number) (now (cells .exit)) (now (logs .exit)) (now (decisions .exit)) (r .racks .rack)
+        ≡ filled (record { racks = n; lanes = k; rounds = rounds }) (tablesOf (now (cells .entry)) (now (logs .entry)) (now (decisions .entry))) ⌝ }
 {
     let size = Size {
         racks: n,
@@ -82,7 +84,8 @@ pub extern "C" fn night_sound(
     decisions: &[u8],
     racks: Racks,
 ) -> u8
-    ensures { λ r. ⌜ r ≡ soundness (record { racks = n; lanes = k; rounds = rounds }) (record { tables = record { cells = now (cells .entry); logs = now (logs .entry); decisions = now (decisions .entry) }; racks = racks .rack }) ⌝ }
+    ensures { λ r. ⌜ r ≡ soundness (record { racks = n; lanes = k; rounds = rounds })
+        (cardOf (now (cells .entry)) (now (logs .entry)) (now (decisions .entry)) (racks .rack)) ⌝ }
 {
     let size = Size {
         racks: n,
@@ -105,7 +108,9 @@ pub extern "C" fn night_turn(
     racks: Racks,
     turn: &[u8],
 ) -> Answer
-    ensures { λ r. ⌜ record { number = r .number; card = record { tables = record { cells = now (cells .exit); logs = now (logs .exit); decisions = now (decisions .exit) }; racks = r .racks .rack } } ≡ turned (record { racks = n; lanes = k; rounds = rounds }) (record { tables = record { cells = now (cells .entry); logs = now (logs .entry); decisions = now (decisions .entry) }; racks = racks .rack }) (now (turn .entry)) ⌝ }
+    ensures { λ r. ⌜ outcome (r .number) (now (cells .exit)) (now (logs .exit)) (now (decisions .exit)) (r .racks .rack)
+        ≡ turned (record { racks = n; lanes = k; rounds = rounds })
+        (cardOf (now (cells .entry)) (now (logs .entry)) (now (decisions .entry)) (racks .rack)) (now (turn .entry)) ⌝ }
 {
     let size = Size {
         racks: n,
@@ -132,7 +137,7 @@ pub extern "C" fn night_log_entry(
     lane: usize,
     place: usize,
 ) -> EntryAnswer
-    ensures { λ r. ⌜ r ≡ entryTold (logEntry (record { racks = n; lanes = k; rounds = rounds }) (now (logs .entry)) rack lane place) ⌝ }
+    ensures { λ r. ⌜ r ≡ entryTold (logEntry (record { racks = n; lanes = k; rounds = rounds }) (logsOf (now (logs .entry))) rack lane place) ⌝ }
 {
     let size = Size {
         racks: n,

@@ -3,10 +3,9 @@ use mathlib.Core.Path.{_≡_}
 use mathlib.Core.List.{List}
 use Prim.Native.Nat.{ℕ}
 use denote.Ref.{RefT, now}
-use Rattle.model.specs.declared.Rack.{Rack}
 use Rattle.model.specs.declared.Size.{Size}
-use Rattle.model.specs.Table.{Tables, Card}
-use Rattle.model.specs.Turn.{Outcome, turned, soundness}
+use Rattle.model.specs.InUse.{logsOf, tablesOf, cardOf, outcome}
+use Rattle.model.specs.Turn.{turned, soundness}
 use Rattle.model.specs.Fresh.{filled}
 use Rattle.model.specs.Logs.{entryNumber, entryCue, queried, logEntry, agree, longer}
 use Rattle.model.specs.Cues.{Listed, addCue, codeNumber, codeValue, coded, codeOf}
@@ -43,41 +42,31 @@ use Rattle.promises.specs.Promise.{Promises, Equals}
 abbrev Bytes : Type 0
 Bytes = RefT (List ℕ)
 
--- the three tables, as lent or afterwards; with the racks; and with the reply
-abbrev tables : Bytes → Bytes → Bytes → Tables
-tables cells logs decisions = record { cells = now cells; logs = now logs; decisions = now decisions }
-
-abbrev card : Bytes → Bytes → Bytes → List Rack → Card
-card cells logs decisions racks = record { tables = tables cells logs decisions; racks = racks }
-
-abbrev outcome : ℕ → Bytes → Bytes → Bytes → List Rack → Outcome
-outcome number cells logs decisions racks = record { number = number; card = card cells logs decisions racks }
-
 -- all tables: the reply, the racks, and the three tables afterwards
 abbrev pub Fresh : Type 2
 Fresh =
     Equals fresh.ended fresh.Symbol.routine
-    (λ κs r (size, (cells, (logs, (decisions, _)))). outcome (r .number) cells logs decisions (r .racks))
-    (λ κs (size, (cells, (logs, (decisions, _)))). filled size (tables cells logs decisions))
+    (λ κs r (size, (cells, (logs, (decisions, _)))). outcome (r .number) (now cells) (now logs) (now decisions) (r .racks))
+    (λ κs (size, (cells, (logs, (decisions, _)))). filled size (tablesOf (now cells) (now logs) (now decisions)))
 
 abbrev pub Sound : Type 2
 Sound =
     Equals sound.ended sound.Symbol.routine (λ κs r x. r)
-    (λ κs (size, (cells, (logs, (decisions, (racks, _))))). soundness size (card cells logs decisions racks))
+    (λ κs (size, (cells, (logs, (decisions, (racks, _))))). soundness size (cardOf (now cells) (now logs) (now decisions) racks))
 
 abbrev pub Turn : Type 2
 Turn =
     Equals turn.ended turn.Symbol.routine
-    (λ κs r (size, (cells, (logs, (decisions, _)))). outcome (r .number) cells logs decisions (r .racks))
-    (λ κs (size, (cells, (logs, (decisions, (racks, (bytes, _)))))). turned size (card cells logs decisions racks) (now bytes))
+    (λ κs r (size, (cells, (logs, (decisions, _)))). outcome (r .number) (now cells) (now logs) (now decisions) (r .racks))
+    (λ κs (size, (cells, (logs, (decisions, (racks, (bytes, _)))))). turned size (cardOf (now cells) (now logs) (now decisions) racks) (now bytes))
 
 -- logs
 abbrev pub LogEntry : Type 2
 LogEntry =
     Promises log-entry.ended log-entry.Symbol.routine
     (λ κs (size, (logs, (rack, (lane, (place, _))))) r x.
-    (record { number = entryNumber r; cue = entryCue r } ≡ queried size (now logs) rack lane place)
-    × (r ≡ logEntry size (now logs) rack lane place))
+    (record { number = entryNumber r; cue = entryCue r } ≡ queried size (logsOf (now logs)) rack lane place)
+    × (r ≡ logEntry size (logsOf (now logs)) rack lane place))
     (λ κs r x. r)
 
 abbrev pub Agree : Type 2
@@ -145,25 +134,25 @@ sized n k rounds = record { racks = n; lanes = k; rounds = rounds }
 abbrev pub NightFresh : Type 2
 NightFresh =
     Equals night-fresh.ended night-fresh.Symbol.routine
-    (λ κs r (n, (k, (rounds, (cells, (logs, (decisions, _)))))). outcome (r .number) cells logs decisions (r .racks .rack))
-    (λ κs (n, (k, (rounds, (cells, (logs, (decisions, _)))))). filled (sized n k rounds) (tables cells logs decisions))
+    (λ κs r (n, (k, (rounds, (cells, (logs, (decisions, _)))))). outcome (r .number) (now cells) (now logs) (now decisions) (r .racks .rack))
+    (λ κs (n, (k, (rounds, (cells, (logs, (decisions, _)))))). filled (sized n k rounds) (tablesOf (now cells) (now logs) (now decisions)))
 
 abbrev pub NightSound : Type 2
 NightSound =
     Equals night-sound.ended night-sound.Symbol.routine (λ κs r x. r)
-    (λ κs (n, (k, (rounds, (cells, (logs, (decisions, (racks, _))))))). soundness (sized n k rounds) (card cells logs decisions (racks .rack)))
+    (λ κs (n, (k, (rounds, (cells, (logs, (decisions, (racks, _))))))). soundness (sized n k rounds) (cardOf (now cells) (now logs) (now decisions) (racks .rack)))
 
 abbrev pub NightTurn : Type 2
 NightTurn =
     Equals night-turn.ended night-turn.Symbol.routine
-    (λ κs r (n, (k, (rounds, (cells, (logs, (decisions, _)))))). outcome (r .number) cells logs decisions (r .racks .rack))
+    (λ κs r (n, (k, (rounds, (cells, (logs, (decisions, _)))))). outcome (r .number) (now cells) (now logs) (now decisions) (r .racks .rack))
     (λ κs (n, (k, (rounds, (cells, (logs, (decisions, (racks, (bytes, _)))))))).
-    turned (sized n k rounds) (card cells logs decisions (racks .rack)) (now bytes))
+    turned (sized n k rounds) (cardOf (now cells) (now logs) (now decisions) (racks .rack)) (now bytes))
 
 abbrev pub NightLogEntry : Type 2
 NightLogEntry =
     Equals night-log-entry.ended night-log-entry.Symbol.routine (λ κs r x. r)
-    (λ κs (n, (k, (rounds, (logs, (rack, (lane, (place, _))))))). entryTold (logEntry (sized n k rounds) (now logs) rack lane place))
+    (λ κs (n, (k, (rounds, (logs, (rack, (lane, (place, _))))))). entryTold (logEntry (sized n k rounds) (logsOf (now logs)) rack lane place))
 
 abbrev pub NightAgree : Type 2
 NightAgree = Equals night-agree.ended night-agree.Symbol.routine (λ κs r x. r) (λ κs (a, (b, _)). agreeTold (agree (now a) (now b)))

@@ -9,7 +9,7 @@ use Rattle.laws.proofs.Index.{product-le}
 use Rattle.model.specs.declared.Size.{Size}
 use Rattle.model.specs.declared.Rack.{Rack}
 use Rattle.model.specs.declared.Kind.the-variants.{SecondRead}
-use Rattle.model.specs.Size.{blockSteps, roundSteps}
+use Rattle.model.specs.Size.{blockSteps, roundSteps, mostRounds}
 use Rattle.model.specs.Kind.{kindOf, kindIn, placeAt}
 use Rattle.model.specs.Step.{isLast}
 use Rattle.model.specs.Table.{Tables}
@@ -18,7 +18,7 @@ use Rattle.model.proofs.Sizes.{Sizes}
 use Rattle.model.proofs.Place.{block-long, stands, block-below, last-place}
 use Rattle.refusal.specs.Tests.{overfullIn}
 
-module _ (s : Size) (r : Rack) (z : Sizes s) (last : isLast s r ≡ true) where
+module _ (s : Size) (r : Rack) (z : Sizes mostRounds s) (last : isLast s r ≡ true) where
   whole : r .step + 1 ≡ roundSteps s
   unfolding isLast
   whole = eqb-true (r .step + 1) (roundSteps s) last

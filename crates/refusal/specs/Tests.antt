@@ -4,16 +4,18 @@ use mathlib.Core.List.{List}
 use mathlib.Core.Bool.{Bool, false, _&&_}
 use Prim.Native.Nat.{ℕ, _≤_, _<_}
 use lib.ListN.{length}
+use Rattle.model.specs.Record.{Cells, Logs}
 use Rattle.model.specs.declared.Size.{Size}
 use Rattle.model.specs.declared.Rack.{Rack}
-use Rattle.model.specs.Size.{logsLength, leading}
+use Rattle.model.specs.Size.{leading}
+use Rattle.model.specs.InUse.{logsLength}
 use Rattle.model.specs.Settle.{tooLong}
 use Rattle.model.specs.Step.{afterSecondRead, isLast}
 use Rattle.model.specs.Turn.{misnamed}
 use Rattle.step.specs.Ready.{InRound, AtCells}
 
 -- "last step: settling would make a log longer than R"
-unfoldable pub overfullIn : Size → List ℕ → List ℕ → ℕ → Rack → Bool
+unfoldable pub overfullIn : Size → Cells → Logs → ℕ → Rack → Bool
 overfullIn s cells logs rack r = isLast s r && tooLong s rack logs (afterSecondRead s cells rack r)
 
 -- tests 6 and 7: tests 4 and 5 did not refuse

@@ -1,7 +1,8 @@
 // Refusals 4 to 8 of a turn, tested in this order.
 ghost use mathlib.Core.Path.{_≡_};
 ghost use lib.ListN.{length};
-ghost use Rattle.model.specs.Size.{cellsLength, decisionsLength};
+ghost use Rattle.model.specs.Size.{decisionsLength};
+ghost use Rattle.model.specs.InUse.{cellsLength, tablesOf, cellsOf, logsOf};
 ghost use Rattle.model.specs.Turn.{finished, misnamed, notOffered, decidedElse, refusalOf};
 ghost use Rattle.step.specs.Ready.{Tested};
 ghost use Rattle.refusal.specs.Tests.{overfullIn, Named, Ending};
@@ -33,7 +34,7 @@ fn misnamed(size: Size, r: Rack, lane: u8, source: u8) -> bool
 // "answer: that source has no offer in this round at that lane"
 fn not_offered(cells: &[u8], size: Size, r: Rack, lane: u8, source: u8) -> bool
     requires { ⌜ Named size r lane source × (length (now cells) ≡ cellsLength size) ⌝ }
-    ensures { λ b. ⌜ b ≡ notOffered size r (now (cells .entry)) lane source ⌝ }
+    ensures { λ b. ⌜ b ≡ notOffered size r (cellsOf (now (cells .entry))) lane source ⌝ }
 {
     if r.step != 1 {
         return false;
@@ -66,7 +67,7 @@ fn decided_else(decisions: &[u8], size: Size, r: Rack, lane: u8, source: u8) -> 
 // "last step: settling would make a log longer than R"
 fn overfull(cells: &[u8], logs: &[u8], size: Size, rack: usize, r: Rack) -> bool
     requires { ⌜ Ending size (now cells) (now logs) rack r ⌝ }
-    ensures { λ b. ⌜ b ≡ overfullIn size (now (cells .entry)) (now (logs .entry)) rack r ⌝ }
+    ensures { λ b. ⌜ b ≡ overfullIn size (cellsOf (now (cells .entry))) (logsOf (now (logs .entry))) rack r ⌝ }
 {
     let last = kind::is_last(size, r);
     if !last {
@@ -87,8 +88,8 @@ pub fn refusal_of(
     lane: u8,
     source: u8,
 ) -> u8
-    requires { ⌜ Tested size (record { cells = now cells; logs = now logs; decisions = now decisions }) rack r ⌝ }
-    ensures { λ number. ⌜ number ≡ refusalOf size (record { cells = now (cells .entry); logs = now (logs .entry); decisions = now (decisions .entry) }) rack r lane source ⌝ }
+    requires { ⌜ Tested size (tablesOf (now cells) (now logs) (now decisions)) rack r ⌝ }
+    ensures { λ number. ⌜ number ≡ refusalOf size (tablesOf (now (cells .entry)) (now (logs .entry)) (now (decisions .entry))) rack r lane source ⌝ }
 {
     let ended = finished(size, r);
     if ended {

@@ -11,10 +11,11 @@ use Rattle.model.specs.declared.Cue.{Cue}
 use Rattle.model.specs.declared.Value.{Value}
 use Rattle.model.specs.declared.Cell.{Cell}
 use Rattle.model.specs.declared.Rack.{Rack}
+use Rattle.model.specs.InUse.{logsOf}
 use Rattle.model.specs.Record.{isCommitted, entryAt}
 use Rattle.model.specs.Table.{logStart, resultAt, newsAt}
 use Rattle.model.specs.Settle.{Log, append, appendMissed, appendCommitted, settledLog, laneLog}
-use Rattle.model.proofs.Record.{load-other-entry}
+use Rattle.model.proofs.Record.{load-other}
 use Rattle.model.proofs.Rules.{committed-least}
 use Rattle.settle.specs.Fits.{grownIf, logAt}
 use Rattle.settle.specs.Lent.{Room, Lent}
@@ -43,7 +44,7 @@ append-start false log c = refl
 
 append-other : (due : Bool) (log : Log) (c : Cue) (i : ℕ) → (due ≡ true → i ≢ log .start + log .length)
     → entryAt (appendIf due log c .table) i ≡ entryAt (log .table) i
-append-other true log c i away = load-other-entry (log .table) (log .start + log .length) i c (away refl)
+append-other true log c i away = load-other (log .table) (log .start + log .length) c i (away refl)
 append-other false log c i away = refl
 
 pub grown-most : (due : Bool) (l : ℕ) → grownIf due l ≤ suc l
@@ -99,7 +100,7 @@ module _ (log : Log) (result : Cell) (news : Value) (most : ℕ) (short : settle
 
 module _ (s : Size) (logs : List ℕ) (rack : ℕ) (r : Rack) (lane : ℕ) {start : ℕ} (at : start ≡ logStart s rack lane) where
   -- a lane's log by its start
-  pub lane-as : settledLog (logAt logs start (s .rounds)) (resultAt r lane) (newsAt r lane) ≡ laneLog s rack logs r lane
+  pub lane-as : settledLog (logAt (logsOf logs) start (s .rounds)) (resultAt r lane) (newsAt r lane) ≡ laneLog s rack (logsOf logs) r lane
   unfolding laneLog
   lane-as = rw at
 

@@ -1,11 +1,11 @@
 -- All lanes: settling one leaves the others' logs, results and news as they were, so that what fits at the start fits when its turn comes.
 use mathlib.Core.Path.{_≡_, refl, sym, _∙_}
-use mathlib.Core.List.{List}
 use mathlib.Core.Logic.{_≢_}
 use mathlib.Core.Bool.{false}
 use Prim.Native.Nat.{ℕ, zero, suc, _+_, _≤_, _<_}
 use native.Mathlib.Omega.{arith}
 use borrow.Author.Tests.{leb-true, not-false}
+use Rattle.model.specs.Record.{Logs}
 use Rattle.laws.specs.Below.{below}
 use Rattle.laws.proofs.Below.{below-at}
 use Rattle.model.specs.declared.Size.{Size}
@@ -18,13 +18,13 @@ use Rattle.settle.specs.Fits.{laneFits}
 use Rattle.settle.proofs.Lane.{settledLength, settled-length, settled-other}
 
 module _ (s : Size) (rack : ℕ) where
-  lane-length : (logs : List ℕ) (r : Rack) (lane : ℕ)
+  lane-length : (logs : Logs) (r : Rack) (lane : ℕ)
       → laneLog s rack logs r lane .length ≡ settledLength (logLength s logs rack lane) (resultAt r lane) (newsAt r lane)
   unfolding laneLog
   lane-length logs r lane = settled-length (logOf s logs rack lane) (resultAt r lane) (newsAt r lane)
 
   -- settling one lane leaves another's log as it was
-  lane-other : (logs : List ℕ) (r : Rack) (l lane : ℕ) → l < s .lanes → lane < s .lanes → l ≢ lane
+  lane-other : (logs : Logs) (r : Rack) (l lane : ℕ) → l < s .lanes → lane < s .lanes → l ≢ lane
       → laneLog s rack logs r l .length ≤ s .rounds → logLength s (settleLane s rack logs r l .logs) rack lane ≡ logLength s logs rack lane
   unfolding settleLane laneLog
   lane-other logs r l lane p q n room =
@@ -32,7 +32,7 @@ module _ (s : Size) (rack : ℕ) where
       (λ j h. settled-other (logOf s logs rack l) (resultAt r l) (newsAt r l) (s .rounds) room (logStart s rack lane + j)
       (λ i g e. n (sym (entry-lane s rack lane j rack l i q h p g e))))
 
-  module _ (logs : List ℕ) (r : Rack) where
+  module _ (logs : Logs) (r : Rack) where
     results-kept : (l : ℕ) → settleLanes s rack logs r l .rack .results ≡ r .results
     unfolding settleLanes settleLane settledRack
     results-kept zero = refl

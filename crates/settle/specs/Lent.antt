@@ -6,7 +6,8 @@ use Prim.Native.Nat.{ℕ, _+_, _*_, _≤_, _<_}
 use lib.ListN.{length}
 use Rattle.model.specs.declared.Size.{Size}
 use Rattle.model.specs.declared.Rack.{Rack}
-use Rattle.model.specs.Size.{sizeFits, logsLength}
+use Rattle.model.specs.Size.{sizeFits}
+use Rattle.model.specs.InUse.{logsOf, logsLength}
 use Rattle.model.specs.Settle.{tooLong}
 
 -- so many records from a log's start on lie within the table
@@ -23,4 +24,4 @@ pub record Lent (s : Size) (logs : List ℕ) (rack : ℕ) : Type 0 where
 -- and every lane's log has room for what settling appends
 pub record LanesLent (s : Size) (logs : List ℕ) (rack : ℕ) (r : Rack) : Type 0 where
   pub lent : Lent s logs rack
-  pub room : tooLong s rack logs r ≡ false
+  pub room : tooLong s rack (logsOf logs) r ≡ false

@@ -3,6 +3,7 @@ ghost use mathlib.Core.Path.{_≡_};
 ghost use mathlib.Core.Bool.{true};
 ghost use Prim.Native.Nat.{_+_, _*_, _≤_, _<_};
 ghost use lib.ListN.{length};
+ghost use Rattle.model.specs.InUse.{logsOf};
 ghost use Rattle.model.specs.Settle.{settledLog, settleLanes, tooLong};
 ghost use Rattle.settle.specs.Fits.{grownIf, logAt, laneFits};
 ghost use Rattle.settle.specs.Lent.{Room, Lent, LanesLent};
@@ -15,7 +16,7 @@ use model::logs;
 // "settles every lane", one after the other: each lane's own part of the log table is lent on.
 pub fn settle_lanes(logs: &mut [u8], size: Size, rack: usize, r: Rack) -> Rack
     requires { ⌜ LanesLent size (now logs) rack r ⌝ }
-    ensures { λ q. ⌜ record { logs = now (logs .exit); rack = q } ≡ settleLanes size rack (now (logs .entry)) r (size .lanes) ⌝ }
+    ensures { λ q. ⌜ record { logs = logsOf (now (logs .exit)); rack = q } ≡ settleLanes size rack (logsOf (now (logs .entry))) r (size .lanes) ⌝ }
 {
     let k = size.lanes;
     let mut q = r;
@@ -41,7 +42,7 @@ fn grown_if(count: usize, due: bool) -> usize
 // The L that rules 1 and 2 would leave.
 fn settled_length(logs: &[u8], start: usize, rounds: usize, result: Cell, news: Value) -> usize
     requires { ⌜ Room (now logs) start rounds ⌝ }
-    ensures { λ l. ⌜ l ≡ settledLog (logAt (now (logs .entry)) start rounds) result news .length ⌝ }
+    ensures { λ l. ⌜ l ≡ settledLog (logAt (logsOf (now (logs .entry))) start rounds) result news .length ⌝ }
 {
     let before = logs::length_from(logs, start, rounds);
     let missed = (news.place as usize) == before + 1;
@@ -54,7 +55,7 @@ fn settled_length(logs: &[u8], start: usize, rounds: usize, result: Cell, news: 
 // Settling would leave a lane's log no longer than R.
 fn lane_fits(logs: &[u8], size: Size, rack: usize, r: Rack, lane: usize) -> bool
     requires { ⌜ Lent size (now logs) rack × (lane < size .lanes) ⌝ }
-    ensures { λ b. ⌜ b ≡ laneFits size rack (now (logs .entry)) r lane ⌝ }
+    ensures { λ b. ⌜ b ≡ laneFits size rack (logsOf (now (logs .entry))) r lane ⌝ }
 {
     let news = r.news[lane];
     let result = r.results[lane];
@@ -66,7 +67,7 @@ fn lane_fits(logs: &[u8], size: Size, rack: usize, r: Rack, lane: usize) -> bool
 // "settling would make a log longer than R"
 pub fn too_long(logs: &[u8], size: Size, rack: usize, r: Rack) -> bool
     requires { ⌜ Lent size (now logs) rack ⌝ }
-    ensures { λ b. ⌜ b ≡ tooLong size rack (now (logs .entry)) r ⌝ }
+    ensures { λ b. ⌜ b ≡ tooLong size rack (logsOf (now (logs .entry))) r ⌝ }
 {
     let k = size.lanes;
     let mut all = true;

@@ -11,7 +11,8 @@ use lib.Seq.{length-take-le}
 use Rattle.laws.proofs.Cases.{and-true, true-and}
 use Rattle.laws.proofs.Index.{product-le}
 use Rattle.model.specs.declared.Size.{Size}
-use Rattle.model.specs.Size.{sizeFits, records, cellsLength, logsLength, decisionsLength}
+use Rattle.model.specs.Size.{sizeFits, records, cellRecords, logRecords, decisionsLength}
+use Rattle.model.specs.InUse.{tablesOf}
 use Rattle.model.specs.Turn.{fits}
 use Rattle.model.specs.Cues.{listsLength, listsFit}
 use Rattle.model.specs.Sheet.{sizeOf, sizeGiven}
@@ -42,12 +43,13 @@ module _ (s : Size) (e : sizeFits s ≡ true) where
   -- the first bytes of arrays with room for the tables fit
   pub tables-fit : (count : ℕ) → count ≡ records s → (cells logs decisions : List ℕ) → 24 * count ≤ length cells → 2 * count ≤ length logs
       → s .rounds * s .lanes ≤ length decisions
-      → fits s (record { cells = take (24 * count) cells; logs = take (2 * count) logs; decisions = take (s .rounds * s .lanes) decisions }) ≡ true
-  unfolding cellsLength logsLength decisionsLength
+      → fits s (tablesOf (take (24 * count) cells) (take (2 * count) logs) (take (s .rounds * s .lanes) decisions)) ≡ true
+  unfolding cellRecords logRecords decisionsLength
   tables-fit count c cells logs decisions x y z =
-      exact-fits s _ e
+      exact-fits s _
       (record {
-        cells = length-take-le _ cells x ∙ rw c;
+        size = e;
+        cells = omega (arith, length-take-le (24 * count) cells x, c);
         logs = length-take-le _ logs y ∙ rw c;
         decisions = length-take-le _ decisions z;
       })

@@ -6,7 +6,8 @@ use Prim.Native.Nat.{ℕ, _+_, _≤_, _<_, _^_}
 use lib.ListN.{length}
 use Rattle.model.specs.declared.Size.{Size}
 use Rattle.model.specs.declared.Rack.{Rack}
-use Rattle.model.specs.Size.{sizeFits, logsLength}
+use Rattle.model.specs.Size.{sizeFits}
+use Rattle.model.specs.InUse.{logsLength, logsOf}
 use Rattle.model.specs.Table.{Tables, Card, rackAt}
 use Rattle.model.specs.Sound.{soundLogs}
 use Rattle.model.specs.Turn.{fits}
@@ -33,7 +34,7 @@ pub record PartDone (s : Size) (card : Card) (before read taken : ℕ) : Type 0 
 pub record RackReady (s : Size) (logs lists : List ℕ) (rack : ℕ) (out : List ℕ) : Type 0 where
   pub fit : sizeFits s ≡ true
   pub exact : length logs ≡ logsLength s
-  pub ok : soundLogs s logs ≡ true
+  pub ok : soundLogs s (logsOf logs) ≡ true
   pub lists-fit : listsFit (s .racks) (s .lanes) lists ≡ true
   pub rack-there : rack < s .racks
   pub room : 65536 ≤ length out
@@ -42,7 +43,7 @@ pub record RackReady (s : Size) (logs lists : List ℕ) (rack : ℕ) (out : List
 pub record LogsReady (s : Size) (logs lists : List ℕ) (racks : List Rack) (out : List ℕ) : Type 0 where
   pub fit : sizeFits s ≡ true
   pub exact : length logs ≡ logsLength s
-  pub ok : soundLogs s logs ≡ true
+  pub ok : soundLogs s (logsOf logs) ≡ true
   pub lists-fit : listsFit (s .racks) (s .lanes) lists ≡ true
   pub started : (rack : ℕ) → rack < s .racks → 1 ≤ rackAt racks rack .round
   pub room : 65536 ≤ length out

@@ -4,6 +4,7 @@ ghost use mathlib.Core.Path.{_≡_};
 ghost use mathlib.Core.Bool.{true};
 ghost use Prim.Native.Nat.{_+_, _*_, _≤_, _<_};
 ghost use lib.ListN.{length};
+ghost use Rattle.model.specs.InUse.{tablesOf, cardOf};
 ghost use Rattle.model.specs.Size.{sizeFits};
 ghost use Rattle.model.specs.Cues.{listsFit};
 ghost use Rattle.tell.specs.Cut.{cuesRead};
@@ -109,8 +110,8 @@ fn play_some(
     night: Night,
     out: &mut [u8],
 ) -> Night
-    requires { ⌜ PartReady size (record { tables = record { cells = now cells; logs = now logs; decisions = now decisions }; racks = night .racks }) (night .read) (night .taken) (now out) ⌝ }
-    ensures { λ r. ⌜ PartDone size (record { tables = record { cells = now (cells .exit); logs = now (logs .exit); decisions = now (decisions .exit) }; racks = r .racks }) (night .read) (r .read) (r .taken) ⌝ }
+    requires { ⌜ PartReady size (cardOf (now cells) (now logs) (now decisions) (night .racks)) (night .read) (night .taken) (now out) ⌝ }
+    ensures { λ r. ⌜ PartDone size (cardOf (now (cells .exit)) (now (logs .exit)) (now (decisions .exit)) (r .racks)) (night .read) (r .read) (r .taken) ⌝ }
 {
     let mut buf = [0u8; PART];
     let n = io::read_full(fd, &mut buf);
@@ -162,8 +163,8 @@ fn play_all(
     racks: [Rack; 8],
     out: &mut [u8],
 ) -> Night
-    requires { ⌜ PartReady size (record { tables = record { cells = now cells; logs = now logs; decisions = now decisions }; racks = racks }) 0 0 (now out) ⌝ }
-    ensures { λ r. ⌜ Played size (record { tables = record { cells = now (cells .exit); logs = now (logs .exit); decisions = now (decisions .exit) }; racks = r .racks }) (r .read) (r .taken) ⌝ }
+    requires { ⌜ PartReady size (cardOf (now cells) (now logs) (now decisions) racks) 0 0 (now out) ⌝ }
+    ensures { λ r. ⌜ Played size (cardOf (now (cells .exit)) (now (logs .exit)) (now (decisions .exit)) (r .racks)) (r .read) (r .taken) ⌝ }
 {
     let mut night = Night {
         racks,
@@ -269,7 +270,7 @@ fn print_night(
     lists: &[u8],
     out: &mut [u8],
 )
-    requires { ⌜ NightReady size (record { cells = now cells; logs = now logs; decisions = now decisions }) (now lists) (now out) ⌝ }
+    requires { ⌜ NightReady size (tablesOf (now cells) (now logs) (now decisions)) (now lists) (now out) ⌝ }
 {
     let reply = fresh::fresh(size, cells, logs, decisions);
     let racks = reply.racks;

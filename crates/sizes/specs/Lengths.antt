@@ -3,7 +3,8 @@ use mathlib.Core.Bool.{Bool, _&&_}
 use Prim.Native.Nat.{ℕ}
 use lib.Dec.{eqb}
 use Rattle.model.specs.declared.Size.{Size}
-use Rattle.model.specs.Size.{sizeFits, cellsLength, logsLength, decisionsLength}
+use Rattle.model.specs.Size.{sizeFits, decisionsLength}
+use Rattle.model.specs.InUse.{cellsLength, logsLength}
 
 -- "n, k or R outside its range, or a lent length not exact": neither
 unfoldable pub lengthsFit : Size → ℕ → ℕ → ℕ → Bool

@@ -9,6 +9,7 @@ use native.Mathlib.Nat.{zero-mod}
 use lib.Dec.{eqb, ltb, leb}
 use lib.ListN.{getD}
 use borrow.Author.Tests.{ltb-true, leb-true, eqb-true, lt-ltb, le-ltb, le-leb, ne-eqb}
+use Rattle.model.specs.Record.{Cells}
 use Rattle.laws.proofs.Cases.{either, and-true, or-true}
 use Rattle.laws.proofs.Below.{below-at}
 use Rattle.model.specs.declared.Size.{Size}
@@ -87,7 +88,7 @@ module _ {s : Size} {cells : List ℕ} {r : Rack} (k : Clocked s cells r) where
   lane-there h =
       lane-at-below s (r .first) (r .step) (sizes s (k .size) .lanes-low) (choice-first h) (clock s r (k .clock) .step-below)
 
-module _ (s : Size) (cells : List ℕ) (rack : ℕ) (r : Rack) where
+module _ (s : Size) (cells : Cells) (rack : ℕ) (r : Rack) where
   -- nothing is read before the first block
   place-start : r .step < 2 → placeAt s (r .step) ≡ 0
   unfolding placeAt

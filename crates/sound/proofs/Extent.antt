@@ -5,7 +5,8 @@ use Prim.Native.Nat.{ℕ, _+_, _*_, _≤_, _<_}
 use native.Mathlib.Omega.{arith}
 use Rattle.laws.proofs.Index.{cell-below, product-le}
 use Rattle.model.specs.declared.Size.{Size}
-use Rattle.model.specs.Size.{sizeFits, records, cellsLength}
+use Rattle.model.specs.Size.{sizeFits, records, cellRecords}
+use Rattle.model.specs.InUse.{cellsLength}
 use Rattle.model.proofs.Sizes.{sizes, rows-most, records-most}
 
 -- the products of the sizes are small
@@ -24,7 +25,7 @@ module _ (s : Size) (fits : sizeFits s ≡ true) where
 
   -- a record of a section
   pub section-fits : (section i : ℕ) → section < 3 → i < records s → 8 * (section * records s + i) + 8 ≤ cellsLength s
-  unfolding cellsLength
+  unfolding cellRecords
   section-fits section i h g =
       let a = cell-below {i = section} {k = 3} {r = i} {n = records s} h g in
       omega arith

@@ -7,7 +7,8 @@ use Prim.Native.Nat.{ℕ}
 use lib.ListN.{length}
 use Rattle.model.specs.declared.Size.{Size}
 use Rattle.model.specs.declared.Rack.{Rack}
-use Rattle.model.specs.Size.{sizeFits, cellsLength}
+use Rattle.model.specs.Size.{sizeFits}
+use Rattle.model.specs.InUse.{cellsLength}
 use Rattle.model.specs.Sound.{soundClock, soundFirst}
 
 pub record Clocked (s : Size) (cells : List ℕ) (r : Rack) : Type 0 where

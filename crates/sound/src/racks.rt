@@ -5,12 +5,13 @@ ghost use Prim.Native.Nat.{_<_};
 ghost use lib.Dec.{ltb};
 ghost use lib.ListN.{length, getD};
 ghost use Rattle.laws.specs.Below.{below};
-ghost use Rattle.model.specs.Size.{sizeFits, logsLength, decisionsLength};
+ghost use Rattle.model.specs.Size.{sizeFits, decisionsLength};
+ghost use Rattle.model.specs.InUse.{logsLength, tablesOf, cardOf, cellsOf, logsOf};
 ghost use Rattle.model.specs.Record.{noCell, isEmpty, sameCell};
 ghost use Rattle.model.specs.Table.{readCell, secondCells};
 ghost use Rattle.model.specs.Sound.{unusedLane, unusedRack, soundValue, soundCell, soundDecisions, soundClock, soundFirst, soundGathered, soundChoice, soundReadBack, soundWritten, soundOutcome, soundHeld, soundLane, soundRack, soundState, soundRacks};
 ghost use Rattle.cells.specs.Here.{Here};
-ghost use Rattle.sound.specs.Lent.{Lent};
+ghost use Rattle.model.proofs.Sizes.{Exact};
 ghost use Rattle.sound.specs.Clocked.{Clocked};
 use crate::tables::log_length;
 use crate::values::sound_cell;
@@ -95,7 +96,7 @@ fn holds_value(
     rack: usize,
 ) -> bool
     requires { ⌜ Here size (now cells) section round lane rack ⌝ }
-    ensures { λ r. ⌜ r ≡ not (isEmpty (readCell size (now (cells .entry)) section round lane rack)) ⌝ }
+    ensures { λ r. ⌜ r ≡ not (isEmpty (readCell size (cellsOf (now (cells .entry))) section round lane rack)) ⌝ }
 {
     let c = cells::read(cells, size, section, round, lane, rack);
     c.mark != 0
@@ -104,7 +105,7 @@ fn holds_value(
 // "a rack's first lane is decided, for a source whose offer there is not empty"
 fn sound_choice(size: Size, cells: &[u8], decisions: &[u8], r: Rack) -> bool
     requires { ⌜ Clocked size (now cells) r × ((length (now decisions) ≡ decisionsLength size) × (soundDecisions size (now decisions) ≡ true)) ⌝ }
-    ensures { λ fine. ⌜ fine ≡ soundChoice size (now (cells .entry)) (now (decisions .entry)) r ⌝ }
+    ensures { λ fine. ⌜ fine ≡ soundChoice size (cellsOf (now (cells .entry))) (now (decisions .entry)) r ⌝ }
 {
     if r.step < 2 {
         return true;
@@ -130,7 +131,7 @@ fn same_as_own(
     c: Cell,
 ) -> bool
     requires { ⌜ Here size (now cells) section round lane rack ⌝ }
-    ensures { λ r. ⌜ r ≡ sameCell c (readCell size (now (cells .entry)) section round lane rack) ⌝ }
+    ensures { λ r. ⌜ r ≡ sameCell c (readCell size (cellsOf (now (cells .entry))) section round lane rack) ⌝ }
 {
     let own = cells::read(cells, size, section, round, lane, rack);
     cells::same_cell(c, own)
@@ -139,7 +140,7 @@ fn same_as_own(
 // "what it read back from itself equals them"
 fn sound_read_back(size: Size, cells: &[u8], rack: usize, r: Rack) -> bool
     requires { ⌜ Clocked size (now cells) r × (rack < size .racks) ⌝ }
-    ensures { λ fine. ⌜ fine ≡ soundReadBack size (now (cells .entry)) rack r ⌝ }
+    ensures { λ fine. ⌜ fine ≡ soundReadBack size (cellsOf (now (cells .entry))) rack r ⌝ }
 {
     if r.step < 2 {
         return true;
@@ -158,7 +159,7 @@ fn sound_read_back(size: Size, cells: &[u8], rack: usize, r: Rack) -> bool
 // "in its present round the cells a rack has written hold a value"
 fn sound_written(size: Size, cells: &[u8], rack: usize, r: Rack, lane: usize) -> bool
     requires { ⌜ Clocked size (now cells) r × ((rack < size .racks) × (lane < size .lanes)) ⌝ }
-    ensures { λ fine. ⌜ fine ≡ soundWritten size (now (cells .entry)) rack r lane ⌝ }
+    ensures { λ fine. ⌜ fine ≡ soundWritten size (cellsOf (now (cells .entry))) rack r lane ⌝ }
 {
     if r.step < 1 {
         return true;
@@ -203,7 +204,7 @@ fn sound_outcome(size: Size, r: Rack, lane: usize) -> bool
 // "held place equals log length"
 fn sound_held(size: Size, logs: &[u8], rack: usize, r: Rack, lane: usize) -> bool
     requires { ⌜ (sizeFits size ≡ true) × ((length (now logs) ≡ logsLength size) × ((rack < size .racks) × (lane < size .lanes))) ⌝ }
-    ensures { λ fine. ⌜ fine ≡ soundHeld size (now (logs .entry)) rack r lane ⌝ }
+    ensures { λ fine. ⌜ fine ≡ soundHeld size (logsOf (now (logs .entry))) rack r lane ⌝ }
 {
     let v = r.held[lane];
     let value = sound_value(size, v);
@@ -229,7 +230,7 @@ fn unused_lane(r: Rack, lane: usize) -> bool
 // One lane of a rack, used or not.
 fn sound_lane(size: Size, cells: &[u8], logs: &[u8], rack: usize, r: Rack, lane: usize) -> bool
     requires { ⌜ Clocked size (now cells) r × ((length (now logs) ≡ logsLength size) × ((rack < size .racks) × (lane < 4))) ⌝ }
-    ensures { λ fine. ⌜ fine ≡ soundLane size (now (cells .entry)) (now (logs .entry)) rack r lane ⌝ }
+    ensures { λ fine. ⌜ fine ≡ soundLane size (cellsOf (now (cells .entry))) (logsOf (now (logs .entry))) rack r lane ⌝ }
 {
     if lane < size.lanes {
         let written = sound_written(size, cells, rack, r, lane);
@@ -243,7 +244,7 @@ fn sound_lane(size: Size, cells: &[u8], logs: &[u8], rack: usize, r: Rack, lane:
 // The four lanes of a rack in use.
 fn sound_lanes(size: Size, cells: &[u8], logs: &[u8], rack: usize, r: Rack) -> bool
     requires { ⌜ Clocked size (now cells) r × ((length (now logs) ≡ logsLength size) × (rack < size .racks)) ⌝ }
-    ensures { λ fine. ⌜ fine ≡ below 4 (soundLane size (now (cells .entry)) (now (logs .entry)) rack r) ⌝ }
+    ensures { λ fine. ⌜ fine ≡ below 4 (soundLane size (cellsOf (now (cells .entry))) (logsOf (now (logs .entry))) rack r) ⌝ }
 {
     let mut fine = true;
     for lane in 0..4 {
@@ -255,8 +256,8 @@ fn sound_lanes(size: Size, cells: &[u8], logs: &[u8], rack: usize, r: Rack) -> b
 
 // A rack in use: its clock and first lane come first, since they say which cells are looked at.
 fn sound_rack(size: Size, cells: &[u8], logs: &[u8], decisions: &[u8], rack: usize, r: Rack) -> bool
-    requires { ⌜ Lent size (now cells) (now logs) (now decisions) × ((soundDecisions size (now decisions) ≡ true) × (rack < size .racks)) ⌝ }
-    ensures { λ fine. ⌜ fine ≡ soundRack size (record { cells = now (cells .entry); logs = now (logs .entry); decisions = now (decisions .entry) }) rack r ⌝ }
+    requires { ⌜ Exact size (tablesOf (now cells) (now logs) (now decisions)) × ((soundDecisions size (now decisions) ≡ true) × (rack < size .racks)) ⌝ }
+    ensures { λ fine. ⌜ fine ≡ soundRack size (tablesOf (now (cells .entry)) (now (logs .entry)) (now (decisions .entry))) rack r ⌝ }
 {
     let clock = sound_clock(size, r);
     if !clock {
@@ -323,8 +324,8 @@ fn sound_state(
     rack: usize,
     r: Rack,
 ) -> bool
-    requires { ⌜ Lent size (now cells) (now logs) (now decisions) × (soundDecisions size (now decisions) ≡ true) ⌝ }
-    ensures { λ fine. ⌜ fine ≡ soundState size (record { cells = now (cells .entry); logs = now (logs .entry); decisions = now (decisions .entry) }) rack r ⌝ }
+    requires { ⌜ Exact size (tablesOf (now cells) (now logs) (now decisions)) × (soundDecisions size (now decisions) ≡ true) ⌝ }
+    ensures { λ fine. ⌜ fine ≡ soundState size (tablesOf (now (cells .entry)) (now (logs .entry)) (now (decisions .entry))) rack r ⌝ }
 {
     if rack < size.racks {
         return sound_rack(size, cells, logs, decisions, rack, r);
@@ -340,8 +341,8 @@ pub fn sound_racks(
     decisions: &[u8],
     racks: [Rack; 8],
 ) -> bool
-    requires { ⌜ Lent size (now cells) (now logs) (now decisions) × (soundDecisions size (now decisions) ≡ true) ⌝ }
-    ensures { λ fine. ⌜ fine ≡ soundRacks size (record { tables = record { cells = now (cells .entry); logs = now (logs .entry); decisions = now (decisions .entry) }; racks = racks }) ⌝ }
+    requires { ⌜ Exact size (tablesOf (now cells) (now logs) (now decisions)) × (soundDecisions size (now decisions) ≡ true) ⌝ }
+    ensures { λ fine. ⌜ fine ≡ soundRacks size (cardOf (now (cells .entry)) (now (logs .entry)) (now (decisions .entry)) racks) ⌝ }
 {
     let mut fine = true;
     for rack in 0..8 {

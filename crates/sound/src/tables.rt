@@ -1,15 +1,17 @@
 // The three lent tables, one pass over each.
 ghost use mathlib.Core.Path.{_≡_};
-ghost use mathlib.Core.Bool.{true, cond, _||_};
+ghost use mathlib.Core.Bool.{true, cond, _&&_, _||_};
 ghost use Prim.Native.Nat.{_+_, _*_, _≤_, _<_};
 ghost use lib.Dec.{eqb, ltb};
 ghost use lib.ListN.{length};
+ghost use Rattle.model.specs.Form.{spareAt};
 ghost use Rattle.laws.specs.Below.{below};
-ghost use Rattle.model.specs.Size.{sizeFits, cellsLength, logsLength, decisionsLength};
+ghost use Rattle.model.specs.Size.{sizeFits, decisionsLength};
+ghost use Rattle.model.specs.InUse.{cellsLength, logsLength, tablesOf, cellsOf, logsOf};
 ghost use Rattle.model.specs.Record.{noCue, sameCue, entryAt};
 ghost use Rattle.model.specs.Table.{undecided, logLength};
 ghost use Rattle.model.specs.Sound.{soundCue, soundRecord, soundSection, soundCells, soundDecisions, soundEntries, soundLog, soundLogs, soundTables};
-ghost use Rattle.sound.specs.Lent.{Lent};
+ghost use Rattle.model.proofs.Sizes.{Exact};
 use crate::values::sound_cell;
 use crate::values::sound_cue;
 use crate::values::zero_cue;
@@ -19,7 +21,7 @@ use model::logs;
 // A record of the cell table: "records marked 0 are all zeros and spare bytes are zero"
 fn sound_record(size: Size, cells: &[u8], section: usize, i: usize) -> bool
     requires { ⌜ (sizeFits size ≡ true) × (8 * i + 8 ≤ length (now cells)) ⌝ }
-    ensures { λ r. ⌜ r ≡ soundRecord size (now (cells .entry)) section i ⌝ }
+    ensures { λ r. ⌜ r ≡ soundRecord size (cellsOf (now (cells .entry))) section i ⌝ }
 {
     let c = cells::load(cells, i);
     let cell = sound_cell(size, section, c);
@@ -32,7 +34,7 @@ fn sound_record(size: Size, cells: &[u8], section: usize, i: usize) -> bool
 // One of the "three sections (offers, first cells, second cells) of 8-byte records".
 fn sound_section(size: Size, cells: &[u8], section: usize) -> bool
     requires { ⌜ (sizeFits size ≡ true) × ((length (now cells) ≡ cellsLength size) × (section < 3)) ⌝ }
-    ensures { λ r. ⌜ r ≡ soundSection size (now (cells .entry)) section ⌝ }
+    ensures { λ r. ⌜ r ≡ soundSection size (cellsOf (now (cells .entry))) section ⌝ }
 {
     let count = size.rounds * size.lanes * size.racks;
     let start = section * count;
@@ -47,7 +49,7 @@ fn sound_section(size: Size, cells: &[u8], section: usize) -> bool
 // All three sections: "marks fit their section (0 or 1; 0 or 1; 0, 2 or 3)"
 fn sound_cells(size: Size, cells: &[u8]) -> bool
     requires { ⌜ (sizeFits size ≡ true) × (length (now cells) ≡ cellsLength size) ⌝ }
-    ensures { λ r. ⌜ r ≡ soundCells size (now (cells .entry)) ⌝ }
+    ensures { λ r. ⌜ r ≡ soundCells size (cellsOf (now (cells .entry))) ⌝ }
 {
     let offers = sound_section(size, cells, 0);
     let firsts = sound_section(size, cells, 1);
@@ -81,7 +83,9 @@ fn sound_decisions(size: Size, decisions: &[u8]) -> bool
 // "used entries have issuer below n and number 1 to R + 1, unused ones are zero"
 fn sound_entry(size: Size, logs: &[u8], at: usize, used: bool) -> bool
     requires { ⌜ (sizeFits size ≡ true) × (2 * at + 2 ≤ length (now logs)) ⌝ }
-    ensures { λ r. ⌜ r ≡ cond used (soundCue size (entryAt (now (logs .entry)) at)) (sameCue (entryAt (now (logs .entry)) at) noCue) ⌝ }
+    ensures { λ r. ⌜ r
+        ≡ (cond used (soundCue size (entryAt (logsOf (now (logs .entry))) at)) (sameCue (entryAt (logsOf (now (logs .entry))) at) noCue)
+        && spareAt (logsOf (now (logs .entry))) at) ⌝ }
 {
     let c = logs::entry(logs, at);
     if used {
@@ -93,7 +97,7 @@ fn sound_entry(size: Size, logs: &[u8], at: usize, used: bool) -> bool
 // The R records of a log, of which the first `used` are.
 fn sound_entries(size: Size, logs: &[u8], start: usize, used: usize) -> bool
     requires { ⌜ (sizeFits size ≡ true) × (2 * (start + size .rounds) ≤ length (now logs)) ⌝ }
-    ensures { λ r. ⌜ r ≡ soundEntries size (now (logs .entry)) start used ⌝ }
+    ensures { λ r. ⌜ r ≡ soundEntries size (logsOf (now (logs .entry))) start used ⌝ }
 {
     let rounds = size.rounds;
     let mut fine = true;
@@ -107,7 +111,7 @@ fn sound_entries(size: Size, logs: &[u8], start: usize, used: usize) -> bool
 // "a log's length is the number of its records before the first zero one"
 pub fn log_length(size: Size, logs: &[u8], rack: usize, lane: usize) -> usize
     requires { ⌜ (sizeFits size ≡ true) × ((length (now logs) ≡ logsLength size) × ((rack < size .racks) × (lane < size .lanes))) ⌝ }
-    ensures { λ r. ⌜ r ≡ logLength size (now (logs .entry)) rack lane ⌝ }
+    ensures { λ r. ⌜ r ≡ logLength size (logsOf (now (logs .entry))) rack lane ⌝ }
 {
     let start = logs::log_start(size, rack, lane);
     logs::length_from(logs, start, size.rounds)
@@ -116,7 +120,7 @@ pub fn log_length(size: Size, logs: &[u8], rack: usize, lane: usize) -> usize
 // One log: "log length is at most R", since it is counted among its R records.
 fn sound_log(size: Size, logs: &[u8], rack: usize, lane: usize) -> bool
     requires { ⌜ (sizeFits size ≡ true) × ((length (now logs) ≡ logsLength size) × ((rack < size .racks) × (lane < size .lanes))) ⌝ }
-    ensures { λ r. ⌜ r ≡ soundLog size (now (logs .entry)) rack lane ⌝ }
+    ensures { λ r. ⌜ r ≡ soundLog size (logsOf (now (logs .entry))) rack lane ⌝ }
 {
     let start = logs::log_start(size, rack, lane);
     let used = log_length(size, logs, rack, lane);
@@ -126,7 +130,7 @@ fn sound_log(size: Size, logs: &[u8], rack: usize, lane: usize) -> bool
 // The logs of one rack.
 fn sound_rack_logs(size: Size, logs: &[u8], rack: usize) -> bool
     requires { ⌜ (sizeFits size ≡ true) × ((length (now logs) ≡ logsLength size) × (rack < size .racks)) ⌝ }
-    ensures { λ r. ⌜ r ≡ below (size .lanes) (λ lane. soundLog size (now (logs .entry)) rack lane) ⌝ }
+    ensures { λ r. ⌜ r ≡ below (size .lanes) (λ lane. soundLog size (logsOf (now (logs .entry))) rack lane) ⌝ }
 {
     let lanes = size.lanes;
     let mut fine = true;
@@ -140,7 +144,7 @@ fn sound_rack_logs(size: Size, logs: &[u8], rack: usize) -> bool
 // The logs of every rack.
 pub fn sound_logs(size: Size, logs: &[u8]) -> bool
     requires { ⌜ (sizeFits size ≡ true) × (length (now logs) ≡ logsLength size) ⌝ }
-    ensures { λ r. ⌜ r ≡ soundLogs size (now (logs .entry)) ⌝ }
+    ensures { λ r. ⌜ r ≡ soundLogs size (logsOf (now (logs .entry))) ⌝ }
 {
     let racks = size.racks;
     let mut fine = true;
@@ -153,8 +157,8 @@ pub fn sound_logs(size: Size, logs: &[u8]) -> bool
 
 // The three lent tables.
 pub fn sound_tables(size: Size, cells: &[u8], logs: &[u8], decisions: &[u8]) -> bool
-    requires { ⌜ Lent size (now cells) (now logs) (now decisions) ⌝ }
-    ensures { λ r. ⌜ r ≡ soundTables size (record { cells = now (cells .entry); logs = now (logs .entry); decisions = now (decisions .entry) }) ⌝ }
+    requires { ⌜ Exact size (tablesOf (now cells) (now logs) (now decisions)) ⌝ }
+    ensures { λ r. ⌜ r ≡ soundTables size (tablesOf (now (cells .entry)) (now (logs .entry)) (now (decisions .entry))) ⌝ }
 {
     let c = sound_cells(size, cells);
     let d = sound_decisions(size, decisions);

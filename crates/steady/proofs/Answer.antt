@@ -68,6 +68,7 @@ module _ (s : Size) (t : Tables) (rack : ℕ) (r : Rack) (ready : Ready s t rack
             record {
               exact =
                   record {
+                    size = x .exact .size;
                     cells = x .exact .cells;
                     logs = x .exact .logs;
                     decisions = length-set (t .decisions) (decisionIndex s (r .round) m) q ∙ x .exact .decisions;

@@ -1,9 +1,8 @@
 -- The cell table: what a sound one gives at each spot, and that a sound cell written at a spot leaves it sound.
 use mathlib.Core.Path.{_≡_, refl, sym, subst}
 use mathlib.Core.Logic.{_≢_}
-use mathlib.Core.List.{List}
 use mathlib.Core.Bool.{true, false, _&&_}
-use Prim.Native.Nat.{ℕ, zero, suc, _+_, _*_, _-_, _≤_, _<_}
+use Prim.Native.Nat.{ℕ, zero, suc, _+_, _*_, _-_, _<_}
 use native.Mathlib.Omega.{arith}
 use lib.ListN.{length}
 use Rattle.laws.proofs.Cases.{either, eq-or-ne, and-true, true-and}
@@ -11,11 +10,12 @@ use Rattle.laws.proofs.Below.{below-at, all-below}
 use Rattle.laws.proofs.Index.{same-row}
 use Rattle.model.specs.declared.Size.{Size}
 use Rattle.model.specs.declared.Cell.{Cell}
-use Rattle.model.specs.Size.{records, cellsLength}
-use Rattle.model.specs.Record.{noValue, isEmpty, sameValue, cellAt}
+use Rattle.model.specs.Size.{records, cellRecords}
+use Rattle.model.specs.Form.{recordAt, spareAt, lengthOf}
+use Rattle.model.specs.Record.{noValue, isEmpty, sameValue, cellAt, Cells}
 use Rattle.model.specs.Table.{offers, firstCells, secondCells, cellIndex, readCell, writeCell}
 use Rattle.model.specs.Sound.{markFits, soundValue, soundCell, soundRecord, soundSection, soundCells}
-use Rattle.model.proofs.Record.{length-store, load-store, load-other, spare-store, spare-other}
+use Rattle.model.proofs.Record.{Room, room, length-store, load-store, load-other, spare-store, spare-other}
 use Rattle.model.proofs.Table.{Spot, spot-below, index-fits}
 use Rattle.steady.proofs.Tests.{cond-else}
 
@@ -33,7 +33,7 @@ module _ (s : Size) where
   unfolding soundCell
   sound-cell section c f m v = rw f (true-and m v)
 
-  section-of : (cells : List ℕ) (section : ℕ) → section < 3 → soundCells s cells ≡ true → soundSection s cells section ≡ true
+  section-of : (cells : Cells) (section : ℕ) → section < 3 → soundCells s cells ≡ true → soundSection s cells section ≡ true
   unfolding soundCells
   section-of cells zero h e = and-true (soundSection s cells offers) _ e .0
   section-of cells (suc zero) h e =
@@ -42,43 +42,43 @@ module _ (s : Size) where
       and-true (soundSection s cells firstCells) _ (and-true (soundSection s cells offers) _ e .1) .1
   section-of cells (suc (suc (suc section))) h e = absurd (omega arith)
 
-  record-at : (cells : List ℕ) (section i : ℕ) → section < 3 → i < records s → soundCells s cells ≡ true
+  record-at : (cells : Cells) (section i : ℕ) → section < 3 → i < records s → soundCells s cells ≡ true
       → soundRecord s cells section (section * records s + i) ≡ true
   unfolding soundSection
   record-at cells section i h g e =
       below-at (records s) (λ i. soundRecord s cells section (section * records s + i)) (section-of cells section h e) i g
 
   -- the cell at a spot of a sound table
-  pub cell-sound : (cells : List ℕ) (section round lane rack : ℕ) → Spot s section round lane rack → soundCells s cells ≡ true
+  pub cell-sound : (cells : Cells) (section round lane rack : ℕ) → Spot s section round lane rack → soundCells s cells ≡ true
       → soundCell s section (readCell s cells section round lane rack) ≡ true
-  unfolding soundRecord cellIndex cellAt
+  unfolding soundRecord cellIndex recordAt
   cell-sound cells section round lane rack p e =
       and-true (soundCell s section (readCell s cells section round lane rack)) _
       (record-at cells section _ (p .section-there) (spot-below s section round lane rack p) e) .0
 
-  module _ (cells : List ℕ) (section round lane rack : ℕ) (c : Cell) where
-    pub length-written : length (writeCell s cells section round lane rack c) ≡ length cells
+  module _ (cells : Cells) (section round lane rack : ℕ) (c : Cell) where
+    pub length-written : length (writeCell s cells section round lane rack c .bytes) ≡ length (cells .bytes)
     length-written = length-store cells (cellIndex s section round lane rack) c
 
     -- a write never empties a cell
-    pub still-full : isEmpty c ≡ false → length cells ≡ cellsLength s → Spot s section round lane rack
+    pub still-full : isEmpty c ≡ false → length (cells .bytes) ≡ lengthOf cells (cellRecords s) → Spot s section round lane rack
         → (i : ℕ) → isEmpty (cellAt cells i) ≡ false → isEmpty (cellAt (writeCell s cells section round lane rack c) i) ≡ false
     still-full full long p i f =
         either (eq-or-ne i (cellIndex s section round lane rack))
         (λ (e : i ≡ cellIndex s section round lane rack).
-        rw (e, load-store cells (cellIndex s section round lane rack) c (rw long (index-fits s section round lane rack p))) full)
-        (λ (d : i ≢ cellIndex s section round lane rack). rw (load-other cells (cellIndex s section round lane rack) i c d) f)
+        rw (e, load-store cells (cellIndex s section round lane rack) c (room cells (cellRecords s) _ long (index-fits s section round lane rack p))) full)
+        (λ (d : i ≢ cellIndex s section round lane rack). rw (load-other cells (cellIndex s section round lane rack) c i d) f)
 
-    module _ (long : length cells ≡ cellsLength s) (p : Spot s section round lane rack) where
-      room : 8 * cellIndex s section round lane rack + 8 ≤ length cells
-      room = rw long (index-fits s section round lane rack p)
+    module _ (long : length (cells .bytes) ≡ lengthOf cells (cellRecords s)) (p : Spot s section round lane rack) where
+      fit : Room cells (cellIndex s section round lane rack)
+      fit = room cells (cellRecords s) (cellIndex s section round lane rack) long (index-fits s section round lane rack p)
 
       pub cell-written : readCell s (writeCell s cells section round lane rack c) section round lane rack ≡ c
-      cell-written = load-store cells (cellIndex s section round lane rack) c room
+      cell-written = load-store cells (cellIndex s section round lane rack) c fit
 
       record-after : soundCell s section c ≡ true → soundCells s cells ≡ true → (section′ i : ℕ) → section′ < 3 → i < records s
           → soundRecord s (writeCell s cells section round lane rack c) section′ (section′ * records s + i) ≡ true
-      unfolding soundRecord cellAt cellIndex
+      unfolding soundRecord cellIndex recordAt spareAt
       record-after ok e section′ i h g =
           let at = section * records s + (((round - 1) * s .lanes + lane) * s .racks + rack) in
           let old = record-at cells section′ i h g e in
@@ -86,9 +86,9 @@ module _ (s : Size) where
           (λ (q : section′ * records s + i ≡ at).
           let n : section ≡ section′ = sym (same-row {n = records s} section′ i section _ g (spot-below s section round lane rack p) q) in
           let fine : soundCell s section′ c ≡ true = subst (λ (x : ℕ). soundCell s x c ≡ true) n ok in
-          rw (q, load-store cells at c room, spare-store cells at c room) (true-and fine refl))
+          rw (q, load-store cells at c fit, spare-store cells at c fit) (true-and fine refl))
           (λ (d : section′ * records s + i ≢ at).
-          rw (load-other cells at (section′ * records s + i) c d, spare-other cells at (section′ * records s + i) c d) old)
+          rw (load-other cells at c (section′ * records s + i) d, spare-other cells at c (section′ * records s + i) d) old)
 
       pub write-sound : soundCell s section c ≡ true → soundCells s cells ≡ true → soundCells s (writeCell s cells section round lane rack c) ≡ true
       unfolding soundCells soundSection

@@ -1,7 +1,6 @@
 -- "Sound, with no look at history", as named facts, a record for each sentence.
 use mathlib.Core.Path.{_≡_}
 use mathlib.Core.Logic.{_⊎_, _≢_}
-use mathlib.Core.List.{List}
 use mathlib.Core.Bool.{true, false}
 use Prim.Native.Nat.{ℕ, _+_, _≤_, _<_}
 use Rattle.model.specs.declared.Size.{Size}
@@ -9,7 +8,7 @@ use Rattle.model.specs.declared.Value.{Value}
 use Rattle.model.specs.declared.Cell.{Cell}
 use Rattle.model.specs.declared.Rack.{Rack}
 use Rattle.model.specs.Size.{blockSteps, roundSteps}
-use Rattle.model.specs.Record.{noValue, noCell, isEmpty}
+use Rattle.model.specs.Record.{noValue, noCell, isEmpty, Cells, Logs}
 use Rattle.model.specs.Table.{Tables, Card, offers, firstCells, secondCells, logLength, undecided, noLane, decisionAt, rackAt, heldAt, resultAt, newsAt, firstAt, secondAt, cellNow}
 use Rattle.model.specs.Kind.{laneAt, stepsIn, firstsRead, secondsRead}
 use Rattle.model.specs.Sound.{soundCell, soundValue, soundCells, soundDecisions, soundLogs, unusedRack}
@@ -39,12 +38,12 @@ pub record Chosen (s : Size) (t : Tables) (r : Rack) : Type 0 where
   pub offer : isEmpty (cellNow s (t .cells) r offers (r .first) (decisionAt s (t .decisions) (r .round) (r .first))) ≡ false
 
 -- "what it read back from itself equals them", in the lane at work
-pub record ReadBack (s : Size) (cells : List ℕ) (rack : ℕ) (r : Rack) (firsts seconds lane : ℕ) : Type 0 where
+pub record ReadBack (s : Size) (cells : Cells) (rack : ℕ) (r : Rack) (firsts seconds lane : ℕ) : Type 0 where
   pub first-back : rack < firsts → firstAt r rack ≡ cellNow s cells r firstCells lane rack
   pub second-back : rack < seconds → secondAt r rack ≡ cellNow s cells r secondCells lane rack
 
 -- "in its present round the cells a rack has written hold a value": those of a lane of whose block it has taken so many steps
-pub record Written (s : Size) (cells : List ℕ) (rack : ℕ) (r : Rack) (lane steps : ℕ) : Type 0 where
+pub record Written (s : Size) (cells : Cells) (rack : ℕ) (r : Rack) (lane steps : ℕ) : Type 0 where
   pub offer : 1 ≤ r .step → isEmpty (cellNow s cells r offers lane rack) ≡ false
   pub first : 1 ≤ steps → isEmpty (cellNow s cells r firstCells lane rack) ≡ false
   pub second : s .racks + 2 ≤ steps → isEmpty (cellNow s cells r secondCells lane rack) ≡ false
@@ -62,7 +61,7 @@ pub record Outcome (s : Size) (r : Rack) (lane steps : ℕ) : Type 0 where
   pub no-news : steps ≢ blockSteps s → newsAt r lane ≡ noValue
 
 -- "held place equals log length"
-pub record Held (s : Size) (logs : List ℕ) (rack : ℕ) (r : Rack) (lane : ℕ) : Type 0 where
+pub record Held (s : Size) (logs : Logs) (rack : ℕ) (r : Rack) (lane : ℕ) : Type 0 where
   pub held-sound : soundValue s (heldAt r lane) ≡ true
   pub held-place : heldAt r lane .place ≡ logLength s logs rack lane
 

@@ -1,26 +1,30 @@
 -- A fresh card has exact lengths, is sound, and has the shape that the types say.
 use mathlib.Core.Path.{_≡_, refl, sym, ap, _∙_}
 use mathlib.Core.Logic.{inr}
+use mathlib.Core.List.{List}
 use mathlib.Core.Bool.{true, cond}
 use Prim.Native.Nat.{ℕ, _+_, _*_, _≤_, _<_}
 use native.Mathlib.Omega.{arith}
 use borrow.Author.Tests.{lt-ltb, le-ltb, le-leb}
 use lib.Dec.{ltb}
-use lib.ListN.{length, drop, replicate, length-replicate, getD-replicate}
+use lib.ListN.{length, getD, drop, replicate, length-replicate, getD-replicate}
+use lib.Seq.{getD-drop}
 use Rattle.laws.proofs.Cases.{either, bool, true-and}
 use Rattle.laws.proofs.Below.{all-below}
 use Rattle.model.specs.declared.Size.{Size}
 use Rattle.model.specs.declared.Value.{Value}
 use Rattle.model.specs.declared.Cell.{Cell}
-use Rattle.model.specs.Size.{records, sizeFits, cellsLength, logsLength, decisionsLength}
-use Rattle.model.specs.Record.{noCue, noValue, noCell, sameCue, sameValue, sameCell, cellAt, spareZero, entryAt}
+use Rattle.model.specs.Size.{records, mostRounds, sizeFits, cellRecords, logRecords, decisionsLength}
+use Rattle.model.specs.Form.{Form, recordAt, spareAt}
+use Rattle.model.specs.Record.{noCue, noValue, noCell, sameCue, sameValue, sameCell}
 use Rattle.model.specs.Table.{offers, firstCells, secondCells, logStart, logLength, noRack, undecided, rackAt, heldAt}
+use Rattle.model.specs.InUse.{cellForm, entryForm, cellsOf, logsOf}
 use Rattle.model.specs.Shape.{Shape}
 use Rattle.model.specs.Sound.{soundCue, soundValue, soundCell, soundRecord, soundSection, soundCells, soundDecisions, sound, unusedLane, unusedRack}
 use Rattle.model.specs.Turn.{fits}
 use Rattle.model.specs.Fresh.{table, ownFirst, freshRack, zeroRack, freshTables, freshRacks, freshCard}
 use Rattle.model.proofs.Same.{same-cue, same-value}
-use Rattle.model.proofs.Record.{cell-bytes, spare-bytes, entry-bytes}
+use Rattle.model.proofs.Record.{Neat}
 use Rattle.model.proofs.Place.{block-long}
 use Rattle.steady.proofs.Visits.{none-taken, no-firsts, no-seconds}
 use Rattle.model.proofs.Sizes.{Sizes, sizes, exact-fits}
@@ -31,25 +35,39 @@ use Rattle.steady.proofs.Leading.{round-long}
 use Rattle.steady.proofs.Elements.{getD-same, length-table, getD-table}
 
 -- zeros read as empty records
-empty-cell : (n i : ℕ) → cellAt (replicate n 0) i ≡ noCell
-empty-cell n i = cell-bytes (replicate n 0) i ∙ simp getD-same
+zeros : (n k j : ℕ) → _≡_ {A = ℕ} (getD (drop k (replicate n 0)) j 0) 0
+zeros n k j = getD-drop k (replicate n 0) j 0 ∙ getD-same n (k + j) 0
 
-empty-spare : (n i : ℕ) → spareZero (drop (8 * i) (replicate n 0)) ≡ true
-empty-spare n i = spare-bytes (replicate n 0) i ∙ simp getD-same
+module _ {A : Type 0} {none : A} (f : Form A none) where
+  pub empty-at : (n i : ℕ) → recordAt (record { form = f; bytes = replicate n 0 }) i ≡ none
+  unfolding recordAt
+  empty-at n i = f .read-alike _ _ (λ j h. zeros n (f .width * i) j) ∙ f .read-none
 
-empty-entry : (n i : ℕ) → entryAt (replicate n 0) i ≡ noCue
-empty-entry n i = entry-bytes (replicate n 0) i ∙ simp getD-same
+  pub empty-neat : (n : ℕ) → Neat n (record { form = f; bytes = replicate (f .width * n) 0 })
+  empty-neat n =
+      record {
+        whole = length-replicate (f .width * n) 0;
+        neat =
+            λ i h j g.
+            zeros (f .width * n) (f .width * i) j
+            ∙ sym (getD-same (f .width) j 0)
+            ∙ ap (λ (l : List ℕ). getD l j 0) (sym (f .zeros) ∙ ap (f .bytes) (sym (empty-at (f .width * n) i)));
+      }
+
+  pub empty-spare : (n i : ℕ) → spareAt (record { form = f; bytes = replicate n 0 }) i ≡ true
+  unfolding spareAt
+  empty-spare n i = f .spare-alike _ _ (λ j h. zeros n (f .width * i) j) ∙ f .spare-none
 
 module _ (s : Size) where
   empty-sound : (section : ℕ) → soundCell s section noCell ≡ true
   unfolding soundCell
   empty-sound section = same-value noValue
 
-  empty-record : (n section i : ℕ) → soundRecord s (replicate n 0) section i ≡ true
-  unfolding soundRecord cellAt
-  empty-record n section i = true-and (ap (λ (c : Cell). soundCell s section c) (empty-cell n i) ∙ empty-sound section) (empty-spare n i)
+  empty-record : (n section i : ℕ) → soundRecord s (cellsOf (replicate n 0)) section i ≡ true
+  unfolding soundRecord recordAt spareAt
+  empty-record n section i = true-and (ap (λ (c : Cell). soundCell s section c) (empty-at cellForm n i) ∙ empty-sound section) (empty-spare cellForm n i)
 
-  empty-cells : (n : ℕ) → soundCells s (replicate n 0) ≡ true
+  empty-cells : (n : ℕ) → soundCells s (cellsOf (replicate n 0)) ≡ true
   unfolding soundCells soundSection
   empty-cells n =
       true-and (all-below (records s) _ (λ i h. empty-record n offers (offers * records s + i)))
@@ -63,13 +81,13 @@ module _ (s : Size) where
       all-below (s .rounds * s .lanes) _
       (λ i h. rw (getD-replicate (s .rounds * s .lanes) i undecided 0 h))
 
-  empty-log : (n start : ℕ) → LogSound s (record { table = replicate n 0; start = start; length = 0 })
+  empty-log : (n start : ℕ) → LogSound s (record { table = logsOf (replicate n 0); start = start; length = 0 })
   empty-log n start =
-      record { short = omega arith; used = λ i h. absurd (omega arith); rest = λ i h g. empty-entry n (start + i) }
+      record { short = omega arith; used = λ i h. absurd (omega arith); rest = λ i h g. empty-at entryForm n (start + i); clean = λ i h. empty-spare entryForm n (start + i) }
 
-  no-length : (n rack lane : ℕ) → logLength s (replicate n 0) rack lane ≡ 0
+  no-length : (n rack lane : ℕ) → logLength s (logsOf (replicate n 0)) rack lane ≡ 0
   no-length n rack lane =
-      length-is s (record { table = replicate n 0; start = logStart s rack lane; length = 0 }) (empty-log n (logStart s rack lane))
+      length-is s (record { table = logsOf (replicate n 0); start = logStart s rack lane; length = 0 }) (empty-log n (logStart s rack lane))
 
   -- "holding its own #1 at place 0 in each lane"
   own-first-sound : (rack : ℕ) → rack < s .racks → soundValue s (ownFirst rack) ≡ true
@@ -84,7 +102,7 @@ module _ (s : Size) where
   held-unused : (rack lane : ℕ) → lane < 4 → s .lanes ≤ lane → heldAt (freshRack s rack) lane ≡ noValue
   held-unused rack lane h g = getD-table 4 _ lane noValue h ∙ rw (le-ltb lane (s .lanes) g)
 
-  rack-fresh : Sizes s → (rack : ℕ) → rack < s .racks → RackSound s (freshTables s) rack (freshRack s rack)
+  rack-fresh : Sizes mostRounds s → (rack : ℕ) → rack < s .racks → RackSound s (freshTables s) rack (freshRack s rack)
   rack-fresh small rack there =
       let r = freshRack s rack in
       let long = round-long s (small .lanes-low) in
@@ -119,7 +137,7 @@ module _ (s : Size) where
             let e = held-there rack lane (omega arith) h in
             record {
               held-sound = rw e (own-first-sound rack there);
-              held-place = ap (λ (v : Value). v .place) e ∙ sym (no-length (logsLength s) rack lane);
+              held-place = ap (λ (v : Value). v .place) e ∙ sym (no-length (entryForm .width * logRecords s) rack lane);
             };
         unused =
             λ lane h g.
@@ -135,19 +153,20 @@ module _ (s : Size) where
 
   pub fresh-fits : sizeFits s ≡ true → fits s (freshTables s) ≡ true
   fresh-fits e =
-      exact-fits s (freshTables s) e
+      exact-fits s (freshTables s)
       (record {
-        cells = length-replicate (cellsLength s) 0;
-        logs = length-replicate (logsLength s) 0;
+        size = e;
+        cells = length-replicate (cellForm .width * cellRecords s) 0;
+        logs = length-replicate (entryForm .width * logRecords s) 0;
         decisions = length-replicate (decisionsLength s) undecided;
       })
 
-  fresh-facts : Sizes s → CardSound s (record { tables = freshTables s; racks = freshRacks s })
+  fresh-facts : Sizes mostRounds s → CardSound s (record { tables = freshTables s; racks = freshRacks s })
   fresh-facts small =
       record {
-        cells = empty-cells (cellsLength s);
+        cells = empty-cells (cellForm .width * cellRecords s);
         decisions = none-decided;
-        logs = facts-logs s (replicate (logsLength s) 0) (λ rack lane h g. (0, empty-log (logsLength s) (logStart s rack lane)));
+        logs = facts-logs s (logsOf (replicate (entryForm .width * logRecords s) 0)) (λ rack lane h g. (0, empty-log (entryForm .width * logRecords s) (logStart s rack lane)));
         used = λ rack h g. rw (rack-at rack h, lt-ltb rack (s .racks) g) (rack-fresh small rack g);
         unused = λ rack h g. rw (rack-at rack h, le-ltb rack (s .racks) g) zero-unused;
       }

@@ -29,7 +29,7 @@ pub record TablesSound (s : Size) (t : Tables) : Type 0 where
 
 -- a rack that has not finished its rounds
 pub record Ready (s : Size) (t : Tables) (rack : ℕ) (r : Rack) : Type 0 where
-  pub sizes : Sizes s
+  pub sizes : Sizes (t .cells .form .most) s
   pub tables : TablesSound s t
   pub there : rack < s .racks
   pub rack-sound : RackSound s t rack r

@@ -10,7 +10,7 @@ use Rattle.laws.proofs.Index.{product-le}
 use Rattle.model.specs.declared.Size.{Size}
 use Rattle.model.specs.declared.Rack.{Rack}
 use Rattle.model.specs.Size.{blockSteps, roundSteps}
-use Rattle.model.specs.Record.{isEmpty}
+use Rattle.model.specs.Record.{isEmpty, Cells}
 use Rattle.model.specs.Table.{Tables, offers, cellNow}
 use Rattle.model.specs.Kind.{stepsIn}
 use Rattle.model.specs.Step.{winning}
@@ -25,7 +25,7 @@ round-long s h =
     let p : 1 * blockSteps s ≤ s .lanes * blockSteps s = product-le h (le-refl (blockSteps s)) in
     omega arith
 
-module _ (s : Size) (t : Tables) (rack : ℕ) (r : Rack) (ok : RackSound s t rack r) (early : r .step < 2) (first : ℕ) (cells decisions : List ℕ) where
+module _ (s : Size) (t : Tables) (rack : ℕ) (r : Rack) (ok : RackSound s t rack r) (early : r .step < 2) (first : ℕ) (cells : Cells) (decisions : List ℕ) where
   abbrev after : Tables
   after = record { cells = cells; logs = t .logs; decisions = decisions }
 

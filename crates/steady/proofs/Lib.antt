@@ -29,3 +29,4 @@ pub mod Elements
 pub mod Fresh
 pub mod Turn
 pub mod Night
+pub mod Stores

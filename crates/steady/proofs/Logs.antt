@@ -1,18 +1,18 @@
 -- The log table: a sound log is so many sound entries and zeros behind them, and its length is their number.
 use mathlib.Core.Path.{_≡_, refl, ap, _∙_}
-use mathlib.Core.List.{List}
-use mathlib.Core.Bool.{true, false, cond}
+use mathlib.Core.Bool.{Bool, true, false, cond, _&&_}
 use Prim.Native.Nat.{ℕ, zero, suc, _+_, _≤_, _<_}
 use native.Mathlib.Omega.{arith}
 use native.Mathlib.Nat.{add-zero}
 use borrow.Author.Tests.{ltb-true, ltb-false, lt-ltb, le-ltb, leb-true}
 use lib.Dec.{ltb, leb}
-use Rattle.laws.proofs.Cases.{either, bool, and-true}
+use Rattle.laws.proofs.Cases.{either, bool, and-true, true-and}
 use Rattle.laws.proofs.Below.{below-at, all-below}
 use Rattle.model.specs.declared.Size.{Size}
 use Rattle.model.specs.declared.Cue.{Cue}
 use Rattle.model.specs.Size.{within}
-use Rattle.model.specs.Record.{noCue, sameCue, entryAt}
+use Rattle.model.specs.Form.{spareAt}
+use Rattle.model.specs.Record.{noCue, sameCue, entryAt, Logs}
 use Rattle.model.specs.Table.{logStart, lengthFrom, logLength}
 use Rattle.model.specs.Settle.{Log, logOf}
 use Rattle.model.specs.Sound.{soundCue, soundEntries, soundLog, soundLogs}
@@ -23,9 +23,10 @@ pub record LogSound (s : Size) (log : Log) : Type 0 where
   pub short : log .length ≤ s .rounds
   pub used : (i : ℕ) → i < log .length → soundCue s (entryAt (log .table) (log .start + i)) ≡ true
   pub rest : (i : ℕ) → log .length ≤ i → i < s .rounds → entryAt (log .table) (log .start + i) ≡ noCue
+  pub clean : (i : ℕ) → i < s .rounds → spareAt (log .table) (log .start + i) ≡ true
 
 -- a length is at most the number of records
-length-short : (table : List ℕ) (i most : ℕ) → lengthFrom table i most ≤ most
+pub length-short : (table : Logs) (i most : ℕ) → lengthFrom table i most ≤ most
 unfolding lengthFrom
 length-short table i zero = omega arith
 length-short table i (suc most) =
@@ -33,7 +34,7 @@ length-short table i (suc most) =
     either (bool (sameCue (entryAt table i) noCue)) (λ e. rw e (omega arith)) (λ e. rw e (omega arith))
 
 -- so many records that are not zero and then, if there is one more, a zero one
-length-counts : (table : List ℕ) (most i n : ℕ) → n ≤ most
+length-counts : (table : Logs) (most i n : ℕ) → n ≤ most
     → ((j : ℕ) → j < n → sameCue (entryAt table (i + j)) noCue ≡ false)
     → (n < most → entryAt table (i + n) ≡ noCue)
     → lengthFrom table i most ≡ n
@@ -66,7 +67,7 @@ module _ (s : Size) where
   pub started : (log : Log) (start : ℕ) → log .start ≡ start → LogSound s log
       → LogSound s (record { table = log .table; start = start; length = log .length })
   started log start e ok =
-      record { short = ok .short; used = λ i h. rw (← e) (ok .used i h); rest = λ i h g. rw (← e) (ok .rest i h g) }
+      record { short = ok .short; used = λ i h. rw (← e) (ok .used i h); rest = λ i h g. rw (← e) (ok .rest i h g); clean = λ i h. rw (← e) (ok .clean i h) }
 
   pub length-is : (log : Log) → LogSound s log → lengthFrom (log .table) (log .start) (s .rounds) ≡ log .length
   length-is log ok =
@@ -74,18 +75,23 @@ module _ (s : Size) where
       (λ j h. cue-there (entryAt (log .table) (log .start + j)) (ok .used j h))
       (λ h. ok .rest (log .length) (omega arith) h)
 
-  module _ (logs : List ℕ) where
+  module _ (logs : Logs) where
     log-facts : (rack lane : ℕ) → soundLog s logs rack lane ≡ true → LogSound s (logOf s logs rack lane)
     unfolding soundLog soundEntries
     log-facts rack lane e =
         let n = logLength s logs rack lane in
         let entry : ℕ → Cue = λ i. entryAt logs (logStart s rack lane + i) in
-        let at = below-at (s .rounds) (λ i. cond (ltb i n) (soundCue s (entry i)) (sameCue (entry i) noCue)) e in
+        let spare : ℕ → Bool = λ i. spareAt logs (logStart s rack lane + i) in
+        let test : ℕ → Bool = λ i. cond (ltb i n) (soundCue s (entry i)) (sameCue (entry i) noCue) in
+        let both : (i : ℕ) → i < s .rounds → (test i ≡ true) × (spare i ≡ true) =
+        λ i h. and-true (test i) (spare i) (below-at (s .rounds) (λ i. test i && spare i) e i h)
+        in
         let short = length-short logs (logStart s rack lane) (s .rounds) in
         record {
           short = short;
-          used = λ i h. cond-then (ltb i n) (soundCue s (entry i)) (sameCue (entry i) noCue) (at i (omega arith)) (lt-ltb i n h);
-          rest = λ i h g. cue-same (entry i) noCue (cond-else (ltb i n) (soundCue s (entry i)) (sameCue (entry i) noCue) (at i g) (le-ltb i n h));
+          used = λ i h. cond-then (ltb i n) (soundCue s (entry i)) (sameCue (entry i) noCue) (both i (omega arith) .0) (lt-ltb i n h);
+          rest = λ i h g. cue-same (entry i) noCue (cond-else (ltb i n) (soundCue s (entry i)) (sameCue (entry i) noCue) (both i g .0) (le-ltb i n h));
+          clean = λ i h. both i h .1;
         }
 
     facts-log : (rack lane : ℕ) → LogSound s (logOf s logs rack lane) → soundLog s logs rack lane ≡ true
@@ -93,9 +99,11 @@ module _ (s : Size) where
     facts-log rack lane ok =
         let n = logLength s logs rack lane in
         all-below (s .rounds) _
-        (λ i h. both-cond (ltb i n)
+        (λ i h. true-and
+        (both-cond (ltb i n)
         (λ e. ok .used i (ltb-true i n e))
         (λ e. ap (λ (c : Cue). sameCue c noCue) (ok .rest i (ltb-false i n e) h) ∙ same-cue noCue))
+        (ok .clean i h))
 
     pub logs-facts : soundLogs s logs ≡ true → (rack lane : ℕ) → rack < s .racks → lane < s .lanes → LogSound s (logOf s logs rack lane)
     unfolding soundLogs

@@ -1,7 +1,6 @@
 -- Rule 3 of settling: the value held next is sound, and its place is the log's length.
 use mathlib.Core.Path.{_≡_, refl}
 use mathlib.Core.Logic.{_≢_}
-use mathlib.Core.List.{List}
 use mathlib.Core.Bool.{true}
 use Prim.Native.Nat.{ℕ, zero, suc, _+_, _≤_, _<_}
 use native.Mathlib.Omega.{arith}
@@ -10,7 +9,7 @@ use lib.Dec.{eqb}
 use Rattle.laws.proofs.Cases.{either, bool, true-and}
 use Rattle.model.specs.declared.Size.{Size}
 use Rattle.model.specs.declared.Cell.{Cell}
-use Rattle.model.specs.Record.{noCue, sameCue, entryAt}
+use Rattle.model.specs.Record.{noCue, sameCue, entryAt, Logs}
 use Rattle.model.specs.Settle.{Log, ownCues, lastEntry, stateOf, ownNext, nextHeld}
 use Rattle.model.specs.Sound.{soundCue, soundValue}
 use Rattle.model.proofs.Same.{same-cue}
@@ -18,7 +17,7 @@ use Rattle.steady.proofs.Tests.{both-cond}
 use Rattle.steady.proofs.Logs.{LogSound}
 
 -- a log has at most as many cues of one rack as entries
-own-few : (table : List ℕ) (start rack n : ℕ) → ownCues table start rack n ≤ n
+own-few : (table : Logs) (start rack n : ℕ) → ownCues table start rack n ≤ n
 unfolding ownCues
 own-few table start rack zero = omega arith
 own-few table start rack (suc n) =
@@ -26,12 +25,12 @@ own-few table start rack (suc n) =
     either (bool (eqb (entryAt table (start + n) .issuer) rack)) (λ e. rw e (omega arith)) (λ e. rw e (omega arith))
 
 module _ (s : Size) where
-  last-none : (table : List ℕ) (start n : ℕ) → n ≡ 0 → sameCue (lastEntry table start n) noCue ≡ true
+  last-none : (table : Logs) (start n : ℕ) → n ≡ 0 → sameCue (lastEntry table start n) noCue ≡ true
   unfolding lastEntry
   last-none table start zero e = same-cue noCue
   last-none table start (suc n) e = absurd (omega arith)
 
-  last-some : (table : List ℕ) (start n : ℕ) → ((i : ℕ) → i < n → soundCue s (entryAt table (start + i)) ≡ true) → n ≢ 0
+  last-some : (table : Logs) (start n : ℕ) → ((i : ℕ) → i < n → soundCue s (entryAt table (start + i)) ≡ true) → n ≢ 0
       → soundCue s (lastEntry table start n) ≡ true
   unfolding lastEntry
   last-some table start zero f d = absurd (d refl)

@@ -1,7 +1,6 @@
 -- "Step 0, offer: all k held values go into the rack's offer cells of this round."
 use mathlib.Core.Path.{_≡_, refl, _∙_}
 use mathlib.Core.Logic.{_≢_}
-use mathlib.Core.List.{List}
 use mathlib.Core.Bool.{true, false}
 use Prim.Native.Nat.{ℕ, zero, suc, _≤_, _<_}
 use native.Mathlib.Omega.{arith}
@@ -9,7 +8,7 @@ use Rattle.laws.proofs.Cases.{either, eq-or-ne}
 use Rattle.model.specs.declared.Size.{Size}
 use Rattle.model.specs.declared.Rack.{Rack}
 use Rattle.model.specs.declared.Kind.the-variants.{Offer}
-use Rattle.model.specs.Record.{isEmpty, offered, cellAt}
+use Rattle.model.specs.Record.{isEmpty, offered, cellAt, Cells}
 use Rattle.model.specs.Table.{Tables, offers, readCell, cellNow, heldAt, cellIndex}
 use Rattle.model.specs.Step.{offersOf, stepBy}
 use Rattle.model.specs.Sound.{markFits, soundCell}
@@ -25,7 +24,7 @@ module _ (s : Size) (t : Tables) (rack : ℕ) (r : Rack) (ready : Ready s t rack
   ok = ready .rack-sound
 
   -- the cells when the first lanes are offered
-  abbrev made : ℕ → List ℕ
+  abbrev made : ℕ → Cells
   made lane = offersOf s (t .cells) rack r lane
 
   spot : (lane : ℕ) → lane < s .lanes → Spot s offers (r .round) lane rack

@@ -11,7 +11,7 @@ use Rattle.model.specs.declared.Value.{Value}
 use Rattle.model.specs.declared.Cell.{Cell}
 use Rattle.model.specs.declared.Rack.{Rack}
 use Rattle.model.specs.Size.{blockSteps, roundSteps}
-use Rattle.model.specs.Record.{noValue, noCell, isEmpty, cellAt}
+use Rattle.model.specs.Record.{noValue, noCell, isEmpty, cellAt, Cells}
 use Rattle.model.specs.Table.{Tables, firstCells, secondCells, cellNow, resultAt, newsAt}
 use Rattle.model.specs.Kind.{placeAt, laneOf, laneAt, stepsIn, firstsRead, secondsRead}
 use Rattle.model.proofs.Place.{stands, stands-block, stands-place, stands-on, last-place}
@@ -75,7 +75,7 @@ module _ (s : Size) (t : Tables) (rack : ℕ) (r : Rack) (ok : RackSound s t rac
     pub lane-on : laneAt s next ≡ laneAt s r
     lane-on = ap (laneOf (r .first)) (stands-block s (r .step + 1) _ _ (stands-on s (r .step) _ _ (stands s (r .step) late) more))
 
-  module _ (cells : List ℕ) (full : (i : ℕ) → isEmpty (cellAt (t .cells) i) ≡ false → isEmpty (cellAt cells i) ≡ false) where
+  module _ (cells : Cells) (full : (i : ℕ) → isEmpty (cellAt (t .cells) i) ≡ false → isEmpty (cellAt cells i) ≡ false) where
     -- the first step of a block writes the first cell, the step after the first reads the second cell
     module _ (first-now : placeAt s (r .step) ≡ 0 → isEmpty (cellNow s cells r firstCells (laneAt s r) rack) ≡ false)
         (second-now : placeAt s (r .step) ≡ s .racks + 1 → isEmpty (cellNow s cells r secondCells (laneAt s r) rack) ≡ false) where

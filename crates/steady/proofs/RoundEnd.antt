@@ -109,7 +109,7 @@ module _ (s : Size) (t : Tables) (rack : ℕ) (r : Rack) (ready : Ready s t rack
       record {
         tables =
             record {
-              exact = record { cells = x .exact .cells; logs = d .sized; decisions = x .exact .decisions };
+              exact = record { size = x .exact .size; cells = x .exact .cells; logs = d .sized; decisions = x .exact .decisions };
               cells = x .cells;
               decisions = x .decisions;
               logs = d .logs-sound;

@@ -3,7 +3,7 @@ use mathlib.Core.Path.{_≡_, refl, sym, ap, _∙_}
 use mathlib.Core.Logic.{_⊎_, inl, inr, _≢_}
 use mathlib.Core.List.{List}
 use mathlib.Core.Bool.{true, false}
-use Prim.Native.Nat.{ℕ, zero, suc, _+_, _≤_, _<_}
+use Prim.Native.Nat.{ℕ, zero, suc, _+_, _*_, _≤_, _<_}
 use native.Mathlib.Omega.{arith}
 use borrow.Author.Tests.{leb-true, not-false}
 use lib.Dec.{leb}
@@ -16,22 +16,25 @@ use Rattle.model.specs.declared.Size.{Size}
 use Rattle.model.specs.declared.Value.{Value}
 use Rattle.model.specs.declared.Cell.{Cell}
 use Rattle.model.specs.declared.Rack.{Rack}
-use Rattle.model.specs.Size.{logsLength}
-use Rattle.model.specs.Record.{noValue, noCell}
+use Rattle.model.specs.declared.Cue.{Cue}
+use Rattle.model.specs.Size.{logRecords}
+use Rattle.model.specs.Form.{Form, lengthOf}
+use Rattle.model.specs.Record.{noCue, noValue, noCell, Logs}
 use Rattle.model.specs.Table.{logStart, logLength, heldAt, resultAt, newsAt, secondCells}
 use Rattle.model.specs.Settle.{Log, logOf, settledLog, stateOf, nextHeld, settledRack, Settled, laneLog, settleLane, settleLanes, tooLong}
 use Rattle.model.specs.Sound.{soundLogs, soundValue}
+use Rattle.model.proofs.Record.{room}
 use Rattle.model.proofs.Table.{entry-fits, entry-rack, entry-lane}
 use Rattle.steady.proofs.Facts.{Done, Held}
 use Rattle.steady.proofs.Cells.{full-value}
 use Rattle.steady.proofs.Logs.{LogSound, started, length-is, logs-facts, facts-logs}
-use Rattle.steady.proofs.Append.{Room, Grown, same-length, settled-sound, settled-grown}
+use Rattle.steady.proofs.Append.{Rooms, Grown, same-length, settled-sound, settled-grown}
 use Rattle.steady.proofs.Next.{next-sound, next-place}
 
-module _ (s : Size) (rack : ℕ) (there : rack < s .racks) (logs : List ℕ) (r : Rack) where
+module _ (s : Size) (rack : ℕ) (there : rack < s .racks) (logs : Logs) (r : Rack) where
   -- the log table and the rack when the first lanes are settled
   pub record Settling (n : ℕ) (after : Settled) : Type 0 where
-    pub sized : length (after .logs) ≡ logsLength s
+    pub sized : length (after .logs .bytes) ≡ lengthOf (after .logs) (logRecords s)
     pub logs-sound : soundLogs s (after .logs) ≡ true
     pub others : (q lane : ℕ) → q < s .racks → lane < s .lanes → (q ≢ rack) ⊎ (n ≤ lane)
         → logLength s (after .logs) q lane ≡ logLength s logs q lane
@@ -81,17 +84,17 @@ module _ (s : Size) (rack : ℕ) (there : rack < s .racks) (logs : List ℕ) (r 
         in
         omega arith
 
-    room : Room s before
-    room i g = rw (so-far .sized) (entry-fits s rack n i there h g)
+    rooms : Rooms s before
+    rooms i g = room (after .logs) (logRecords s) (logStart s rack n + i) (so-far .sized) (entry-fits s rack n i there h g)
 
     result-fine : soundValue s (result .value) ≡ true
     result-fine = full-value s secondCells result (done-now .result-sound) (done-now .full)
 
     now-sound : LogSound s now
-    now-sound = settled-sound s before result news-now (logs-facts s (after .logs) (so-far .logs-sound) rack n there h) room result-fine (done-now .news-sound) short
+    now-sound = settled-sound s before result news-now (logs-facts s (after .logs) (so-far .logs-sound) rack n there h) rooms result-fine (done-now .news-sound) short
 
     grown : Grown s before now
-    grown = settled-grown s before result news-now (logs-facts s (after .logs) (so-far .logs-sound) rack n there h) room result-fine (done-now .news-sound) short
+    grown = settled-grown s before result news-now (logs-facts s (after .logs) (so-far .logs-sound) rack n there h) rooms result-fine (done-now .news-sound) short
 
     -- the log at work
     here : LogSound s (record { table = now .table; start = logStart s rack n; length = now .length })
@@ -112,6 +115,7 @@ module _ (s : Size) (rack : ℕ) (there : rack < s .racks) (logs : List ℕ) (r 
           short = short;
           used = λ i g. let x : i < s .rounds = omega arith in rw (grown .outside (logStart s q lane + i) (apart i x)) (ok .used i g);
           rest = λ i g x. grown .outside (logStart s q lane + i) (apart i x) ∙ ok .rest i g x;
+          clean = λ i x. grown .outside-spare (logStart s q lane + i) (apart i x) ∙ ok .clean i x;
         }
 
     here-length : logLength s (now .table) rack n ≡ now .length
@@ -162,7 +166,7 @@ module _ (s : Size) (rack : ℕ) (there : rack < s .racks) (logs : List ℕ) (r 
     unfolding settleLane laneLog settledRack
     settling-on =
         record {
-          sized = grown .sized ∙ so-far .sized;
+          sized = grown .sized ∙ so-far .sized ∙ ap (λ (f : Form Cue noCue). f .width * logRecords s) (sym (grown .form));
           logs-sound = now-logs;
           others =
               λ q lane a b d.
@@ -186,7 +190,7 @@ module _ (s : Size) (rack : ℕ) (there : rack < s .racks) (logs : List ℕ) (r 
         }
 
   pub settling : s .lanes ≤ 4 → tooLong s rack logs r ≡ false → ((lane : ℕ) → lane < s .lanes → Done s (resultAt r lane) (newsAt r lane))
-      → length logs ≡ logsLength s → soundLogs s logs ≡ true → length (r .held) ≡ 4
+      → length (logs .bytes) ≡ lengthOf logs (logRecords s) → soundLogs s logs ≡ true → length (r .held) ≡ 4
       → (n : ℕ) → n ≤ s .lanes → Settling n (settleLanes s rack logs r n)
   unfolding settleLanes
   settling four fits done long ok shape zero h =

@@ -98,7 +98,7 @@ module _ (s : Size) (card : Card) (rack lane source : ℕ) (shape : Shape card) 
   abbrev after : After
   after = stepped s (card .tables) rack r lane source
 
-  small : Sizes s
+  small : Sizes (card .tables .cells .form .most) s
   small = sizes s (fits-size s (card .tables) fit)
 
   facts : CardSound s card
@@ -151,7 +151,7 @@ module _ (s : Size) (card : Card) (rack lane source : ℕ) (shape : Shape card) 
 
   pub step-fits : fits s (step s card rack lane source .tables) ≡ true
   unfolding step
-  step-fits = exact-fits s (after .tables) (fits-size s (card .tables) fit) (kept .tables .exact)
+  step-fits = exact-fits s (after .tables) (kept .tables .exact)
 
   pub step-sound : sound s (step s card rack lane source) ≡ true
   unfolding step

@@ -1,7 +1,6 @@
 -- The tests of a card give its named facts, and the facts give the tests.
 use mathlib.Core.Path.{_≡_, ap, _∙_}
 use mathlib.Core.Logic.{inl, inr, _≢_}
-use mathlib.Core.List.{List}
 use mathlib.Core.Bool.{true, false, cond, not, _&&_, _||_}
 use Prim.Native.Nat.{ℕ, _+_, _≤_, _<_}
 use native.Mathlib.Omega.{arith}
@@ -15,7 +14,7 @@ use Rattle.model.specs.declared.Value.{Value}
 use Rattle.model.specs.declared.Cell.{Cell}
 use Rattle.model.specs.declared.Rack.{Rack}
 use Rattle.model.specs.Size.{within, blockSteps, roundSteps}
-use Rattle.model.specs.Record.{noValue, noCell, isEmpty, sameValue, sameCell}
+use Rattle.model.specs.Record.{noValue, noCell, isEmpty, sameValue, sameCell, Cells, Logs}
 use Rattle.model.specs.Table.{Tables, Card, offers, firstCells, secondCells, logLength, undecided, noLane, decisionAt, rackAt, heldAt, resultAt, newsAt, firstAt, secondAt, cellNow}
 use Rattle.model.specs.Kind.{laneAt, stepsIn, firstsRead, secondsRead}
 use Rattle.model.specs.Sound.{soundCell, soundValue, soundClock, soundFirst, soundGathered, soundChoice, soundReadBack, soundWritten, soundOutcome, soundHeld}
@@ -116,7 +115,7 @@ module _ (s : Size) where
       else-or (ltb (r .step) 2)
       (λ e. let c = f (ltb-false (r .step) 2 e) in true-and (false-not (ne-eqb _ undecided (c .decided))) (false-not (c .offer)))
 
-  back-facts : (cells : List ℕ) (rack : ℕ) (r : Rack) → soundReadBack s cells rack r ≡ true
+  back-facts : (cells : Cells) (rack : ℕ) (r : Rack) → soundReadBack s cells rack r ≡ true
       → ReadBack s cells rack r (firstsRead s r) (secondsRead s r) (laneAt s r)
   unfolding soundReadBack
   back-facts cells rack r e =
@@ -126,7 +125,7 @@ module _ (s : Size) where
         second-back = λ h. cell-same _ _ (or-else (leb (secondsRead s r) rack) _ (p .1) (lt-leb (secondsRead s r) rack h));
       }
 
-  facts-back : (cells : List ℕ) (rack : ℕ) (r : Rack) → ReadBack s cells rack r (firstsRead s r) (secondsRead s r) (laneAt s r)
+  facts-back : (cells : Cells) (rack : ℕ) (r : Rack) → ReadBack s cells rack r (firstsRead s r) (secondsRead s r) (laneAt s r)
       → soundReadBack s cells rack r ≡ true
   unfolding soundReadBack
   facts-back cells rack r b =
@@ -143,7 +142,7 @@ module _ (s : Size) where
   from-full : (low n : ℕ) (c : Cell) → (low ≤ n → isEmpty c ≡ false) → ltb n low || not (isEmpty c) ≡ true
   from-full low n c f = else-or (ltb n low) (λ e. false-not (f (ltb-false n low e)))
 
-  written-facts : (cells : List ℕ) (rack : ℕ) (r : Rack) (lane : ℕ) → soundWritten s cells rack r lane ≡ true
+  written-facts : (cells : Cells) (rack : ℕ) (r : Rack) (lane : ℕ) → soundWritten s cells rack r lane ≡ true
       → Written s cells rack r lane (stepsIn s r lane)
   unfolding soundWritten
   written-facts cells rack r lane e =
@@ -155,7 +154,7 @@ module _ (s : Size) where
         second = full-from (s .racks + 2) (stepsIn s r lane) (cellNow s cells r secondCells lane rack) (q .1);
       }
 
-  facts-written : (cells : List ℕ) (rack : ℕ) (r : Rack) (lane : ℕ) → Written s cells rack r lane (stepsIn s r lane)
+  facts-written : (cells : Cells) (rack : ℕ) (r : Rack) (lane : ℕ) → Written s cells rack r lane (stepsIn s r lane)
       → soundWritten s cells rack r lane ≡ true
   unfolding soundWritten
   facts-written cells rack r lane w =
@@ -198,13 +197,13 @@ module _ (s : Size) where
       (ap (λ (c : Cell). sameCell c noCell) (o .no-result d) ∙ same-cell noCell)
       (ap (λ (v : Value). sameValue v noValue) (o .no-news d) ∙ same-value noValue))
 
-  held-facts : (logs : List ℕ) (rack : ℕ) (r : Rack) (lane : ℕ) → soundHeld s logs rack r lane ≡ true → Held s logs rack r lane
+  held-facts : (logs : Logs) (rack : ℕ) (r : Rack) (lane : ℕ) → soundHeld s logs rack r lane ≡ true → Held s logs rack r lane
   unfolding soundHeld
   held-facts logs rack r lane e =
       let p = and-true (soundValue s (heldAt r lane)) _ e in
       record { held-sound = p .0; held-place = eqb-true (heldAt r lane .place) (logLength s logs rack lane) (p .1) }
 
-  facts-held : (logs : List ℕ) (rack : ℕ) (r : Rack) (lane : ℕ) → Held s logs rack r lane → soundHeld s logs rack r lane ≡ true
+  facts-held : (logs : Logs) (rack : ℕ) (r : Rack) (lane : ℕ) → Held s logs rack r lane → soundHeld s logs rack r lane ≡ true
   unfolding soundHeld
   facts-held logs rack r lane h =
       true-and (h .held-sound) (eq-eqb (heldAt r lane .place) (logLength s logs rack lane) (h .held-place))

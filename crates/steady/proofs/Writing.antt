@@ -1,7 +1,6 @@
 -- The two steps of a block that write a cell of the lane at work.
 use mathlib.Core.Path.{_≡_, refl, sym, _∙_, subst}
 use mathlib.Core.Logic.{_≢_}
-use mathlib.Core.List.{List}
 use mathlib.Core.Bool.{true, false}
 use Prim.Native.Nat.{ℕ, _+_, _≤_, _<_}
 use native.Mathlib.Omega.{arith}
@@ -12,7 +11,7 @@ use Rattle.model.specs.declared.Cell.{Cell}
 use Rattle.model.specs.declared.Rack.{Rack}
 use Rattle.model.specs.declared.Kind.the-variants.{FirstWrite, SecondWrite}
 use Rattle.model.specs.Size.{blockSteps}
-use Rattle.model.specs.Record.{isEmpty, offered}
+use Rattle.model.specs.Record.{isEmpty, offered, Cells}
 use Rattle.model.specs.Table.{Tables, offers, firstCells, secondCells, writeCell, cellNow, decisionAt}
 use Rattle.model.specs.Kind.{placeAt, laneAt, firstsRead, secondsRead}
 use Rattle.model.specs.Block.{secondCell}
@@ -39,7 +38,7 @@ module _ (s : Size) (t : Tables) (rack : ℕ) (r : Rack) (ready : Ready s t rack
       (firsts-same : firstsRead s (advanced r) ≡ firstsRead s r) (seconds-same : secondsRead s (advanced r) ≡ secondsRead s r)
       (first-unread : section ≡ firstCells → firstsRead s r ≡ 0) (second-unread : section ≡ secondCells → secondsRead s r ≡ 0)
       (first-due : placeAt s (r .step) ≡ 0 → section ≡ firstCells) (second-due : placeAt s (r .step) ≡ s .racks + 1 → section ≡ secondCells) where
-    abbrev new : List ℕ
+    abbrev new : Cells
     new = writeCell s (t .cells) section (r .round) (laneAt s r) rack c
 
     spot : Spot s section (r .round) (laneAt s r) rack

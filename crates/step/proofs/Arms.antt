@@ -3,6 +3,8 @@ use mathlib.Core.Path.{_≡_, refl, ap, _∙_}
 use mathlib.Core.List.{List}
 use Prim.Native.Nat.{ℕ, zero, suc, _+_, _≤_}
 use lib.Dec.{eqb}
+use Rattle.model.specs.Record.{Cells, Logs}
+use Rattle.model.specs.InUse.{tablesOf}
 use Rattle.laws.proofs.Cases.{either, bool}
 use Rattle.model.specs.declared.Size.{Size}
 use Rattle.model.specs.declared.Rack.{Rack}
@@ -20,57 +22,57 @@ use Rattle.step.proofs.Places.{round-small}
 use Rattle.step.proofs.Ready.{unrefused, named, settles}
 
 -- neither the read nor the settling changes the round
-pub read-round : (s : Size) (cells : List ℕ) (rack : ℕ) (r : Rack) → afterSecondRead s cells rack r .round ≡ r .round
+pub read-round : (s : Size) (cells : Cells) (rack : ℕ) (r : Rack) → afterSecondRead s cells rack r .round ≡ r .round
 unfolding afterSecondRead blockEnded secondGathered
 read-round s cells rack r =
     either (bool (eqb (secondRead s (placeAt s (r .step)) + 1) (s .racks))) (λ y. rw y) (λ n. rw n)
 
-pub settled-round : (s : Size) (rack : ℕ) (logs : List ℕ) (r : Rack) (lane : ℕ) → settleLanes s rack logs r lane .rack .round ≡ r .round
+pub settled-round : (s : Size) (rack : ℕ) (logs : Logs) (r : Rack) (lane : ℕ) → settleLanes s rack logs r lane .rack .round ≡ r .round
 unfolding settleLanes settleLane settledRack
 settled-round s rack logs r zero = refl
 settled-round s rack logs r (suc lane) = settled-round s rack logs r lane
 
-pub ended-round : (s : Size) (cells logs : List ℕ) (rack : ℕ) (r q : Rack) {a : Settled} → InRound s r → q ≡ afterSecondRead s cells rack r
+pub ended-round : (s : Size) (cells : Cells) (logs : Logs) (rack : ℕ) (r q : Rack) {a : Settled} → InRound s r → q ≡ afterSecondRead s cells rack r
     → a ≡ settleLanes s rack logs q (s .lanes) → a .rack .round ≤ 64
 ended-round s cells logs rack r q p e f =
     rw (f, settled-round s rack logs q (s .lanes), e, read-round s cells rack r) (round-small p)
 
-module _ {s : Size} {t : Tables} {rack : ℕ} {r : Rack} (p : Ready s t rack r) where
+module _ {s : Size} {cells logs decisions : List ℕ} {rack : ℕ} {r : Rack} (p : Ready s (tablesOf cells logs decisions) rack r) where
   pub in-round : InRound s r
   in-round =
       record {
-        size = p .tested .size;
+        size = p .tested .exact .size;
         round-low = p .tested .round-low;
         round-high = p .round-high;
         step-below = p .tested .step-below;
       }
 
-  pub at-cells : AtCells s (t .cells) rack r
+  pub at-cells : AtCells s cells rack r
   at-cells = record { round = in-round; exact = p .tested .exact .cells; rack-there = p .tested .rack-there }
 
-  pub in-block : leading ≤ r .step → InBlock s (t .cells) rack r
+  pub in-block : leading ≤ r .step → InBlock s cells rack r
   in-block h = record { at = at-cells; first-there = p .tested .first-there h }
 
-  pub both-decided : leading ≤ r .step → Decided s (t .cells) (t .decisions) rack r
+  pub both-decided : leading ≤ r .step → Decided s cells decisions rack r
   both-decided h =
       record { block = in-block h; exact = p .tested .exact .decisions; source-there = p .tested .source-there h }
 
-  module _ (lane source : ℕ) (u : refusalOf s t rack r lane source ≡ 0) where
-    pub at-decisions : kindOf s (r .step) ≡ Answer → AtDecisions s (t .decisions) r lane
+  module _ (lane source : ℕ) (u : refusalOf s (tablesOf cells logs decisions) rack r lane source ≡ 0) where
+    pub at-decisions : kindOf s (r .step) ≡ Answer → AtDecisions s decisions r lane
     at-decisions k =
         record {
           round = in-round;
           exact = p .tested .exact .decisions;
-          lane-there = named s r lane source (unrefused s t rack r lane source u .well-named) (answer-step s (r .step) k) .0;
+          lane-there = named s r lane source (unrefused s (tablesOf cells logs decisions) rack r lane source u .well-named) (answer-step s (r .step) k) .0;
         }
 
-    pub settling : kindOf s (r .step) ≡ SecondRead → Settling s (t .cells) (t .logs) rack r
+    pub settling : kindOf s (r .step) ≡ SecondRead → Settling s cells logs rack r
     settling k =
         record {
           block = in-block (second-read-place s (r .step) k .later);
           second-read = k;
           exact = p .tested .exact .logs;
-          room = settles s t rack r (unrefused s t rack r lane source u .has-room);
+          room = settles s (tablesOf cells logs decisions) rack r (unrefused s (tablesOf cells logs decisions) rack r lane source u .has-room);
         }
 
 -- the whole step, from what it does to the tables that it is lent

@@ -17,7 +17,7 @@ use Rattle.model.specs.Settle.{tooLong}
 use Rattle.model.specs.Step.{afterSecondRead, isLast}
 use Rattle.model.specs.Sound.{soundDecisions, soundClock, soundFirst, soundGathered, soundChoice, soundRack}
 use Rattle.model.specs.Turn.{fits, finished, misnamed, notOffered, decidedElse, overfull, refusalOf}
-use Rattle.model.proofs.Sizes.{fits-size, fits-exact}
+use Rattle.model.proofs.Sizes.{fits-exact}
 use Rattle.model.proofs.Table.{decision-fits}
 use Rattle.step.specs.Ready.{Tested, Ready}
 
@@ -80,7 +80,6 @@ module _ (s : Size) (t : Tables) (rack : ℕ) (r : Rack) where
       let v = and-true (soundChoice s (t .cells) (t .decisions) r) _ (u .1) in
       let k = clock s r (p .0) in
       record {
-        size = fits-size s t f;
         exact = fits-exact s t f;
         rack-there = h;
         round-low = k .low;

@@ -3,6 +3,7 @@ use mathlib.Core.List.{List}
 use mathlib.Core.Bool.{cond}
 use Prim.Native.Nat.{ℕ}
 use lib.ListN.{set}
+use Rattle.model.specs.Record.{Cells, Logs}
 use Rattle.model.specs.declared.Size.{Size}
 use Rattle.model.specs.declared.Rack.{Rack}
 use Rattle.model.specs.Table.{decisionIndex}
@@ -11,7 +12,7 @@ use Rattle.model.specs.Step.{advanced, winning, endingRound, offersOf, firstWri
 
 -- the cell table and the rack after a step that writes cells
 pub record CellsAfter : Type 0 where
-  pub cells : List ℕ
+  pub cells : Cells
   pub rack : Rack
 
 -- the decision table and the rack after an answer
@@ -19,7 +20,7 @@ pub record DecisionsAfter : Type 0 where
   pub decisions : List ℕ
   pub rack : Rack
 
-module _ (s : Size) (cells : List ℕ) (rack : ℕ) (r : Rack) where
+module _ (s : Size) (cells : Cells) (rack : ℕ) (r : Rack) where
   abbrev pub offering : CellsAfter
   offering = record { cells = offersOf s cells rack r (s .lanes); rack = advanced r }
 
@@ -30,7 +31,7 @@ module _ (s : Size) (cells : List ℕ) (rack : ℕ) (r : Rack) where
   secondWriting = record { cells = secondWritten s cells rack r; rack = advanced r }
 
   -- "The round's last step also settles every lane."
-  unfoldable pub secondReading : List ℕ → Settled
+  unfoldable pub secondReading : Logs → Settled
   secondReading logs =
       let q = afterSecondRead s cells rack r in
       let done = settleLanes s rack logs q (s .lanes) in

@@ -6,7 +6,8 @@ use Prim.Native.Nat.{ℕ, _≤_, _<_}
 use lib.ListN.{length}
 use Rattle.model.specs.declared.Size.{Size}
 use Rattle.model.specs.declared.Rack.{Rack}
-use Rattle.model.specs.Size.{sizeFits, cellsLength, logsLength, decisionsLength, leading, roundSteps}
+use Rattle.model.specs.Size.{sizeFits, decisionsLength, leading, roundSteps}
+use Rattle.model.specs.InUse.{cellsLength, logsLength, cellsOf, logsOf}
 use Rattle.model.specs.declared.Kind.the-variants.{SecondRead}
 use Rattle.model.specs.Table.{Tables, decisionAt}
 use Rattle.model.specs.Kind.{kindOf}
@@ -16,7 +17,6 @@ use Rattle.model.proofs.Sizes.{Exact}
 
 -- what tests 1 to 3 establish of a rack and the tables that a step uses, also after its last round
 pub record Tested (s : Size) (t : Tables) (rack : ℕ) (r : Rack) : Type 0 where
-  pub size : sizeFits s ≡ true
   pub exact : Exact s t
   pub rack-there : rack < s .racks
   pub round-low : 1 ≤ r .round
@@ -64,4 +64,4 @@ pub record Settling (s : Size) (cells logs : List ℕ) (rack : ℕ) (r : Rack) :
   pub block : InBlock s cells rack r
   pub second-read : kindOf s (r .step) ≡ SecondRead
   pub exact : length logs ≡ logsLength s
-  pub room : isLast s r ≡ true → tooLong s rack logs (afterSecondRead s cells rack r) ≡ false
+  pub room : isLast s r ≡ true → tooLong s rack (logsOf logs) (afterSecondRead s (cellsOf cells) rack r) ≡ false

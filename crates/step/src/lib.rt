@@ -1,6 +1,7 @@
 // What a step of each of the six kinds does to the tables and to the rack, and the one dispatch over them.
 ghost use mathlib.Core.Path.{_≡_};
 ghost use Prim.Native.Nat.{_<_};
+ghost use Rattle.model.specs.InUse.{tablesOf, cellsOf, logsOf, afterOf};
 ghost use Rattle.model.specs.declared.Kind.the-variants.{FirstRead, SecondRead};
 ghost use Rattle.model.specs.Table.{decisionIndex, decisionAt};
 ghost use Rattle.model.specs.Kind.{kindOf};
@@ -45,7 +46,7 @@ pub fn decision_at(decisions: &[u8], size: Size, r: Rack, lane: usize) -> u8
 // "Step 0, offer: all k held values go into the rack's offer cells of this round."
 fn offer(cells: &mut [u8], size: Size, rack: usize, r: Rack) -> Rack
     requires { ⌜ AtCells size (now cells) rack r ⌝ }
-    ensures { λ q. ⌜ record { cells = now (cells .exit); rack = q } ≡ offering size (now (cells .entry)) rack r ⌝ }
+    ensures { λ q. ⌜ record { cells = cellsOf (now (cells .exit)); rack = q } ≡ offering size (cellsOf (now (cells .entry))) rack r ⌝ }
 {
     cells::write_offers(cells, size, rack, r);
     advanced(r)
@@ -66,7 +67,7 @@ fn answer(decisions: &mut [u8], size: Size, r: Rack, lane: u8, source: u8) -> Ra
 // "The value offered by q at m is what this rack proposes in m"; in each other lane "the rack proposes its held value".
 fn proposal(cells: &[u8], decisions: &[u8], size: Size, rack: usize, r: Rack) -> Value
     requires { ⌜ Decided size (now cells) (now decisions) rack r ⌝ }
-    ensures { λ v. ⌜ v ≡ proposal size (now (cells .entry)) rack r (now (decisions .entry)) ⌝ }
+    ensures { λ v. ⌜ v ≡ proposal size (cellsOf (now (cells .entry))) rack r (now (decisions .entry)) ⌝ }
 {
     let lane = kind::lane_at(size, r);
     let first = r.first as usize;
@@ -81,7 +82,8 @@ fn proposal(cells: &[u8], decisions: &[u8], size: Size, rack: usize, r: Rack) ->
 // "write its first cell, which is its own value below"
 fn first_write(cells: &mut [u8], decisions: &[u8], size: Size, rack: usize, r: Rack) -> Rack
     requires { ⌜ Decided size (now cells) (now decisions) rack r ⌝ }
-    ensures { λ q. ⌜ record { cells = now (cells .exit); rack = q } ≡ firstWriting size (now (cells .entry)) rack r (now (decisions .entry)) ⌝ }
+    ensures { λ q. ⌜ record { cells = cellsOf (now (cells .exit)); rack = q }
+        ≡ firstWriting size (cellsOf (now (cells .entry))) rack r (now (decisions .entry)) ⌝ }
 {
     let own = proposal(cells, decisions, size, rack, r);
     let lane = kind::lane_at(size, r);
@@ -96,7 +98,7 @@ fn first_write(cells: &mut [u8], decisions: &[u8], size: Size, rack: usize, r: R
 // "read the n first cells, rack 0 first, one a step"
 fn first_read(cells: &[u8], size: Size, rack: usize, r: Rack) -> Rack
     requires { ⌜ InBlock size (now cells) rack r × (kindOf size (r .step) ≡ FirstRead) ⌝ }
-    ensures { λ q. ⌜ q ≡ afterFirstRead size (now (cells .entry)) rack r ⌝ }
+    ensures { λ q. ⌜ q ≡ afterFirstRead size (cellsOf (now (cells .entry))) rack r ⌝ }
 {
     let other = kind::place_at(size, r.step as usize) - 1;
     let lane = kind::lane_at(size, r);
@@ -109,7 +111,7 @@ fn first_read(cells: &[u8], size: Size, rack: usize, r: Rack) -> Rack
 // "write its second cell": from the first cells read and its own value.
 fn second_write(cells: &mut [u8], size: Size, rack: usize, r: Rack) -> Rack
     requires { ⌜ InBlock size (now cells) rack r ⌝ }
-    ensures { λ q. ⌜ record { cells = now (cells .exit); rack = q } ≡ secondWriting size (now (cells .entry)) rack r ⌝ }
+    ensures { λ q. ⌜ record { cells = cellsOf (now (cells .exit)); rack = q } ≡ secondWriting size (cellsOf (now (cells .entry))) rack r ⌝ }
 {
     let lane = kind::lane_at(size, r);
     let first = cells::read(cells, size, 1, r.round as usize, lane, rack);
@@ -123,7 +125,7 @@ fn second_write(cells: &mut [u8], size: Size, rack: usize, r: Rack) -> Rack
 // "read the n second cells likewise"
 fn second_gathered(cells: &[u8], size: Size, rack: usize, r: Rack) -> Rack
     requires { ⌜ InBlock size (now cells) rack r × (kindOf size (r .step) ≡ SecondRead) ⌝ }
-    ensures { λ q. ⌜ q ≡ secondGathered size (now (cells .entry)) rack r ⌝ }
+    ensures { λ q. ⌜ q ≡ secondGathered size (cellsOf (now (cells .entry))) rack r ⌝ }
 {
     let other = kind::place_at(size, r.step as usize) - (size.racks + 2);
     let lane = kind::lane_at(size, r);
@@ -136,7 +138,7 @@ fn second_gathered(cells: &[u8], size: Size, rack: usize, r: Rack) -> Rack
 // "The last read gives the lane's result." "What was gathered is emptied at the end of each block."
 fn block_ended(cells: &[u8], size: Size, rack: usize, r: Rack, gathered: Rack) -> Rack
     requires { ⌜ InBlock size (now cells) rack r ⌝ }
-    ensures { λ q. ⌜ q ≡ blockEnded size (now (cells .entry)) rack r gathered ⌝ }
+    ensures { λ q. ⌜ q ≡ blockEnded size (cellsOf (now (cells .entry))) rack r gathered ⌝ }
 {
     let lane = kind::lane_at(size, r);
     let first = cells::read(cells, size, 1, r.round as usize, lane, rack);
@@ -160,7 +162,7 @@ fn block_ended(cells: &[u8], size: Size, rack: usize, r: Rack, gathered: Rack) -
 // The rack after the read of a second cell, which may be its block's last.
 pub fn after_second_read(cells: &[u8], size: Size, rack: usize, r: Rack) -> Rack
     requires { ⌜ InBlock size (now cells) rack r × (kindOf size (r .step) ≡ SecondRead) ⌝ }
-    ensures { λ q. ⌜ q ≡ afterSecondRead size (now (cells .entry)) rack r ⌝ }
+    ensures { λ q. ⌜ q ≡ afterSecondRead size (cellsOf (now (cells .entry))) rack r ⌝ }
 {
     let gathered = second_gathered(cells, size, rack, r);
     let other = kind::place_at(size, r.step as usize) - (size.racks + 2);
@@ -191,7 +193,8 @@ fn round_ended(r: Rack) -> Rack
 // The read of a second cell: "The round's last step also settles every lane."
 fn second_read(cells: &[u8], logs: &mut [u8], size: Size, rack: usize, r: Rack) -> Rack
     requires { ⌜ Settling size (now cells) (now logs) rack r ⌝ }
-    ensures { λ q. ⌜ record { logs = now (logs .exit); rack = q } ≡ secondReading size (now (cells .entry)) rack r (now (logs .entry)) ⌝ }
+    ensures { λ q. ⌜ record { logs = logsOf (now (logs .exit)); rack = q }
+        ≡ secondReading size (cellsOf (now (cells .entry))) rack r (logsOf (now (logs .entry))) ⌝ }
 {
     let read = after_second_read(cells, size, rack, r);
     let last = kind::is_last(size, r);
@@ -213,8 +216,10 @@ pub fn act(
     lane: u8,
     source: u8,
 ) -> Rack
-    requires { ⌜ Ready size (record { cells = now cells; logs = now logs; decisions = now decisions }) rack r × (refusalOf size (record { cells = now cells; logs = now logs; decisions = now decisions }) rack r lane source ≡ 0) ⌝ }
-    ensures { λ q. ⌜ record { tables = record { cells = now (cells .exit); logs = now (logs .exit); decisions = now (decisions .exit) }; rack = q } ≡ stepped size (record { cells = now (cells .entry); logs = now (logs .entry); decisions = now (decisions .entry) }) rack r lane source ⌝ }
+    requires { ⌜ Ready size (tablesOf (now cells) (now logs) (now decisions)) rack r
+        × (refusalOf size (tablesOf (now cells) (now logs) (now decisions)) rack r lane source ≡ 0) ⌝ }
+    ensures { λ q. ⌜ afterOf (now (cells .exit)) (now (logs .exit)) (now (decisions .exit)) q
+        ≡ stepped size (tablesOf (now (cells .entry)) (now (logs .entry)) (now (decisions .entry))) rack r lane source ⌝ }
 {
     let next = kind::kind_of(size, r.step as usize);
     match next {

@@ -11,12 +11,14 @@ use lib.ListN.{length, getD, take, drop, take-append-drop}
 use lib.Seq.{take-all, length-take-le}
 use Rattle.laws.proofs.Cases.{either, bool, eq-or-ne, lt-or-ge, and-true, true-and, or-false}
 use Rattle.model.specs.declared.Cue.{Cue}
-use Rattle.model.specs.Record.{noCue, sameCue, storeEntry}
+use Rattle.model.specs.Record.{noCue, sameCue, Logs, storeEntry}
+use Rattle.model.specs.Form.{stored}
+use Rattle.model.specs.InUse.{logsOf}
 use Rattle.model.specs.Size.{within}
 use Rattle.model.specs.Cues.{listMost, listsLength, listsFit, listStart, listLength, badCue, listed, addCue}
 use Rattle.model.specs.Night.{pieces}
 use Rattle.model.specs.Sheet.{loadCues, sheet, sizeOf}
-use Rattle.model.proofs.Record.{load-store-entry, load-other-entry}
+use Rattle.model.proofs.Record.{Room, load-store, load-other}
 use Rattle.model.proofs.Length.{zeroAt, length-end}
 use Rattle.cues.specs.Adding.{outOfRange}
 use Rattle.cues.proofs.Lists.{bad-apart, few-lists, placed}
@@ -25,11 +27,11 @@ use Rattle.tell.specs.Cut.{recordsRead, cuesRead}
 use Rattle.tell.proofs.Parts.{pieces-append}
 
 -- how many of a table's first records are not zero
-unfoldable used : List ℕ → ℕ → ℕ
+unfoldable used : Logs → ℕ → ℕ
 used table zero = 0
 used table (suc i) = cond (zeroAt table i) 0 1 + used table i
 
-used-most : (table : List ℕ) (i : ℕ) → used table i ≤ i
+used-most : (table : Logs) (i : ℕ) → used table i ≤ i
 unfolding used
 used-most table zero = omega arith
 used-most table (suc i) =
@@ -37,24 +39,24 @@ used-most table (suc i) =
     (λ z. rw z (omega (arith, used-most table i)))
     (λ u. rw u (omega (arith, used-most table i)))
 
-module _ (table : List ℕ) (p : ℕ) (c : Cue) where
+module _ (table : Logs) (p : ℕ) (c : Cue) where
   -- a store changes no record before it
   used-before : (i : ℕ) → i ≤ p → used (storeEntry table p c) i ≡ used table i
   unfolding used
   used-before zero h = refl
   used-before (suc i) h =
       let d : i ≢ p = λ e. omega arith in
-      rw (load-other-entry table p i c d, used-before i (omega arith))
+      rw (load-other table p c i d, used-before i (omega arith))
 
   -- one more record is not zero when such a one is stored over a zero one
-  used-store : 2 * p + 2 ≤ length table → zeroAt table p ≡ true → sameCue c noCue ≡ false → (i : ℕ) → p < i
+  used-store : Room table p → zeroAt table p ≡ true → sameCue c noCue ≡ false → (i : ℕ) → p < i
       → used (storeEntry table p c) i ≡ suc (used table i)
   unfolding used
   used-store r z u zero h = absurd (omega arith)
   used-store r z u (suc i) h =
       either (eq-or-ne i p)
-      (λ (e : i ≡ p). rw (e, load-store-entry table p c r, u, z) (omega (arith, used-before p (omega arith))))
-      (λ (d : i ≢ p). rw (load-other-entry table p i c d) (omega (arith, used-store r z u i (omega arith))))
+      (λ (e : i ≡ p). rw (e, load-store table p c r, u, z) (omega (arith, used-before p (omega arith))))
+      (λ (d : i ≢ p). rw (load-other table p c i d) (omega (arith, used-store r z u i (omega arith))))
 
 module _ (n k : ℕ) where
   -- how many places the lists have
@@ -84,8 +86,8 @@ module _ (n k : ℕ) where
 
   -- a good record takes one more place
   listed-more : (lists cue : List ℕ) → listsFit n k lists ≡ true → badCue n k lists cue ≡ false
-      → used (listed k lists cue) places ≡ suc (used lists places)
-  unfolding listed storeEntry
+      → used (logsOf (listed k lists cue)) places ≡ suc (used (logsOf lists) places)
+  unfolding listed stored
   listed-more lists cue e good =
       let rack = getD cue 0 0 in
       let lane = getD cue 1 0 in
@@ -93,13 +95,13 @@ module _ (n k : ℕ) where
       let room = leb-false listMost (listLength k lists rack lane) (t .1) in
       let inside = placed n k lists cue e (t .0) .within in
       let fit = fit-facts lists e in
-      used-store lists (listStart k rack lane + listLength k lists rack lane) (record { issuer = getD cue 2 0; number = getD cue 3 0 }) (omega arith)
-      (length-end lists (listStart k rack lane) listMost room) (coded cue (t .0)) places (omega arith)
+      used-store (logsOf lists) (listStart k rack lane + listLength k lists rack lane) (record { issuer = getD cue 2 0; number = getD cue 3 0 }) (omega arith)
+      (length-end (logsOf lists) (listStart k rack lane) listMost room) (coded cue (t .0)) places (omega arith)
 
   -- what a record that is taken says
   record Taken (lists after : List ℕ) : Type 0 where
     fit : listsFit n k lists ≡ true
-    more : used after places ≡ suc (used lists places)
+    more : used (logsOf after) places ≡ suc (used (logsOf lists) places)
 
   added-more : (lists cue : List ℕ) → addCue n k lists cue .number ≡ 0 → Taken lists (addCue n k lists cue .lists)
   unfolding addCue
@@ -112,15 +114,15 @@ module _ (n k : ℕ) where
 
   -- with more records than free places one of them is bad, and nothing behind it matters
   stops : (records more : List (List ℕ)) (lists : List ℕ) (i : ℕ) → 0 < length records
-      → (listsFit n k lists ≡ true → places < used lists places + length records)
+      → (listsFit n k lists ≡ true → places < used (logsOf lists) places + length records)
       → loadCues n k lists i (records ++ more) ≡ loadCues n k lists i records
   unfolding loadCues
   stops [] more lists i some full = absurd (omega arith)
   stops (cue ∷ records) more lists i some full =
       either (bool (eqb (addCue n k lists cue .number) 0))
       (λ z. let t = added-more lists cue (eqb-true _ 0 z) in
-      let next : places < used (addCue n k lists cue .lists) places + length records = omega (arith, t .more, full (t .fit)) in
-      rw z (stops records more (addCue n k lists cue .lists) (suc i) (omega (arith, used-most (addCue n k lists cue .lists) places)) (λ _. next)))
+      let next : places < used (logsOf (addCue n k lists cue .lists)) places + length records = omega (arith, t .more, full (t .fit)) in
+      rw z (stops records more (addCue n k lists cue .lists) (suc i) (omega (arith, used-most (logsOf (addCue n k lists cue .lists)) places)) (λ _. next)))
       (λ f. rw f)
 
   -- the first records say all, if they are more than all lists have places

@@ -1,11 +1,13 @@
 -- What a steady card gives to whoever tells its turns and its logs, and that a card filled afresh is steady.
 use mathlib.Core.Path.{_≡_}
+use mathlib.Core.List.{List}
 use mathlib.Core.Bool.{true}
 use Prim.Native.Nat.{ℕ, _≤_, _<_}
 use native.Mathlib.Omega.{arith}
 use Rattle.model.specs.declared.Size.{Size}
-use Rattle.model.specs.Size.{sizeFits}
-use Rattle.model.specs.Table.{Tables, Card, rackAt}
+use Rattle.model.specs.Size.{sizeUpTo}
+use Rattle.model.specs.InUse.{tablesOf}
+use Rattle.model.specs.Table.{Card, rackAt}
 use Rattle.model.specs.Turn.{Outcome, fits}
 use Rattle.model.specs.Sound.{soundLogs}
 use Rattle.model.specs.Fresh.{freshCard, filled}
@@ -17,14 +19,15 @@ use Rattle.steady.proofs.Turn.{Steady}
 
 module _ (s : Size) where
   -- the call that fills tables which fit leaves a fresh card
-  pub filled-steady : (t : Tables) (o : Outcome) → o ≡ filled s t → fits s t ≡ true → Steady s (o .card)
+  pub filled-steady : (cells logs decisions : List ℕ) (o : Outcome) → o ≡ filled s (tablesOf cells logs decisions)
+      → fits s (tablesOf cells logs decisions) ≡ true → Steady s (o .card)
   unfolding filled freshCard
-  filled-steady t o e f =
-      let fit = fits-size s t f in
+  filled-steady cells logs decisions o e f =
+      let fit = fits-size s (tablesOf cells logs decisions) f in
       rw (e, f) (record { shape = fresh-shape s; fit = fresh-fits s fit; ok = fresh-sound s fit })
 
   module _ (card : Card) (h : Steady s card) where
-    pub steady-size : sizeFits s ≡ true
+    pub steady-size : sizeUpTo (card .tables .cells .form .most) s ≡ true
     steady-size = fits-size s (card .tables) (h .fit)
 
     facts : CardSound s card

@@ -2,6 +2,7 @@
 ghost use mathlib.Core.Path.{_≡_};
 ghost use Prim.Native.Nat.{_+_, _≤_, _<_, _^_};
 ghost use lib.ListN.{length};
+ghost use Rattle.model.specs.InUse.{cardOf, logsOf};
 ghost use Rattle.model.specs.Sheet.{sizeOf, sizeGiven, loadCues};
 ghost use lib.Dec.{eqb};
 ghost use mathlib.Core.Bool.{cond};
@@ -64,7 +65,8 @@ pub struct Added {
 
 // The cue records one after the other, to the first bad one: "the first bad cue record prints `bad cues` and its index from 0".
 pub fn tell_cues(racks: usize, lanes: usize, lists: &mut [u8], bytes: &[u8]) -> Added
-    ensures { λ r. ⌜ record { number = r .number; index = r .index; lists = now (lists .exit) } ≡ loadCues racks lanes (now (lists .entry)) 0 (pieces (now (bytes .entry))) ⌝ }
+    ensures { λ r. ⌜ record { number = r .number; index = r .index; lists = now (lists .exit) }
+        ≡ loadCues racks lanes (now (lists .entry)) 0 (pieces (now (bytes .entry))) ⌝ }
 {
     let mut index: u64 = 0;
     let mut at: usize = 0;
@@ -92,7 +94,8 @@ fn tell_entries(
     out: &mut [u8],
 ) -> usize
     requires { ⌜ EntriesReady lanes (now logs) (now lists) start lane count at (now out) ⌝ }
-    ensures { λ r. ⌜ record { bytes = now (out .exit); place = r } ≡ write (now (out .entry)) at (entriesText lanes (now (lists .entry)) (now (logs .entry)) start lane count) ⌝ }
+    ensures { λ r. ⌜ record { bytes = now (out .exit); place = r }
+        ≡ write (now (out .entry)) at (entriesText lanes (now (lists .entry)) (logsOf (now (logs .entry))) start lane count) ⌝ }
 {
     let mut place = at;
     let mut i: usize = 0;
@@ -118,7 +121,8 @@ pub fn tell_log(
     out: &mut [u8],
 ) -> usize
     requires { ⌜ LogReady size (now logs) (now lists) rack lane (now out) ⌝ }
-    ensures { λ r. ⌜ record { bytes = now (out .exit); place = r } ≡ write (now (out .entry)) 0 (logText size (now (lists .entry)) (now (logs .entry)) rack lane finished) ⌝ }
+    ensures { λ r. ⌜ record { bytes = now (out .exit); place = r }
+        ≡ write (now (out .entry)) 0 (logText size (now (lists .entry)) (logsOf (now (logs .entry))) rack lane finished) ⌝ }
 {
     let rounds = size.rounds;
     let lanes = size.lanes;
@@ -168,8 +172,15 @@ pub fn tell_turns(
     index: u64,
     out: &mut [u8],
 ) -> Told
-    requires { ⌜ TurnsReady size (record { tables = record { cells = now cells; logs = now logs; decisions = now decisions }; racks = racks }) (now bytes) (now out) index ⌝ }
-    ensures { λ r. ⌜ record { card = record { tables = record { cells = now (cells .exit); logs = now (logs .exit); decisions = now (decisions .exit) }; racks = r .racks }; text = record { bytes = now (out .exit); place = r .place }; taken = r .taken } ≡ tellTurns size (record { tables = record { cells = now (cells .entry); logs = now (logs .entry); decisions = now (decisions .entry) }; racks = racks }) (now (out .entry)) 0 index 0 (pieces (now (bytes .entry))) ⌝ }
+    requires { ⌜ TurnsReady size (cardOf (now cells) (now logs) (now decisions) racks) (now bytes) (now out) index ⌝ }
+    ensures { λ r. ⌜
+        record {
+          card = cardOf (now (cells .exit)) (now (logs .exit)) (now (decisions .exit)) (r .racks);
+          text = record { bytes = now (out .exit); place = r .place };
+          taken = r .taken;
+        }
+        ≡ tellTurns size (cardOf (now (cells .entry)) (now (logs .entry)) (now (decisions .entry)) racks)
+        (now (out .entry)) 0 index 0 (pieces (now (bytes .entry))) ⌝ }
 {
     let mut all = racks;
     let mut place: usize = 0;

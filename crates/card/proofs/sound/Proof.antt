@@ -3,17 +3,18 @@ use mathlib.Core.Path.{_≡_, sym, _∙_}
 use mathlib.Core.Bool.{true}
 use borrow.Author.Needs.{needs}
 use borrow.Author.Tests.{not-true, not-false}
+use Rattle.model.specs.InUse.{tablesOf}
 use Rattle.model.specs.Table.{Tables}
 use Rattle.model.specs.Turn.{fits, soundness}
 use Rattle.sizes.specs.Lengths.{lengthsFit}
-use Rattle.card.proofs.Tests.{lent}
+use Rattle.model.proofs.Sizes.{fits-exact}
 use Rattle.card.proofs.sound.Statement.{statement}
 use Rattle.card.proofs.sound.Tie as tie
 
 abbrev tables : tie.Else1 → Tables
 tables e =
     let a = e .before .before .before .before .before .args in
-    record { cells = a .cells .now; logs = a .logs .now; decisions = a .decisions .now }
+    tablesOf (a .cells .now) (a .logs .now) (a .decisions .now)
 
 fitting : (e : tie.Else1) → fits (e .before .before .before .before .before .args .size) (tables e) ≡ true
 unfolding fits lengthsFit
@@ -33,4 +34,4 @@ returns-3 c = rw (fitting (c .before .before), sym (c .before .sound .ensures) �
 
 pub sound-spec : {M : Type 1} → statement M
 sound-spec =
-    tie.close (tie.spec (λ c κs. search needs) returns (λ c κs. lent _ (tables c) (fitting c)) returns-2 returns-3)
+    tie.close (tie.spec (λ c κs. search needs) returns (λ c κs. fits-exact _ _ (fitting c)) returns-2 returns-3)

@@ -1,11 +1,14 @@
--- The six bytes read are those of the record: `cell-bytes`.
-use Rattle.model.proofs.Record.{cell-bytes}
+-- The six bytes read are those of the record.
+use lib.Seq.{getD-drop}
+use native.Mathlib.Nat.{add-zero}
+use Rattle.model.specs.Form.{recordAt}
 use borrow.Author.Needs.{needs}
 use Rattle.cells.proofs.load.Statement.{statement}
 use Rattle.cells.proofs.load.Tie as tie
 
 returns : tie.Need-returns
-returns c = rw (cell-bytes (c .before .before .before .before .before .before .args .table .now) (c .before .before .before .before .before .before .args .at)) (search needs)
+unfolding recordAt
+returns c = simp (getD-drop, add-zero)
 
 pub load-spec : {M : Type 1} → statement M
 load-spec =

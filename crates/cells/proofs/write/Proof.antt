@@ -1,6 +1,8 @@
 -- The part of one round comes back with the record stored, which `store-part` says of the whole table.
+use mathlib.Core.Path.{ap}
 use Prim.Native.Nat.{_+_, _*_, _-_}
 use lib.ListN.{length-take, length-drop}
+use Rattle.model.specs.InUse.{cellsOf}
 use Rattle.model.proofs.Record.{store-part}
 use native.Mathlib.Omega.{arith}
 use Rattle.cells.proofs.Room.{room, in-part}
@@ -22,7 +24,7 @@ returns c =
     let k = a .size .lanes in
     let f = a .section * (a .size .rounds * k * n) + (a .round - 1) * k * n in
     rw (c .before .before .put .ensures, in-part (a .size) (a .section) (a .round) (a .lane) (a .rack))
-    (store-part (a .cells .now) f (a .lane * n + a .rack) (8 * f + 8 * (k * n) - 8 * f) (a .c) (omega arith))
+    (ap cellsOf (store-part (cellsOf (a .cells .now)) f (a .lane * n + a .rack) (8 * f + 8 * (k * n) - 8 * f) (a .c) (omega arith)))
 
 pub write-spec : {M : Type 1} → statement M
 write-spec =

@@ -5,6 +5,7 @@ use native.Mathlib.Omega.{arith}
 use borrow.Author.Needs.{needs}
 use borrow.Author.Tests.{lt-ltb, le-ltb}
 use lib.ListN.{length}
+use Rattle.model.specs.InUse.{logsOf}
 use Rattle.model.specs.Cues.{listLength, codeIn}
 use Rattle.model.proofs.Length.{length-most}
 use Rattle.cues.proofs.Lists.{code-there}
@@ -28,7 +29,7 @@ returns-2 c =
 inside : (c : tie.Else2) → 2 * (c .before .before .list-start .result + (c .before .before .before .before .before .args .number - 1)) + 2 ≤ length (c .before .before .before .before .before .args .lists .now)
 inside c =
     let a = c .before .before .before .before .before .args in
-    omega (arith, length-most (a .lists .now) (c .before .before .list-start .result) 64)
+    omega (arith, length-most (logsOf (a .lists .now)) (c .before .before .list-start .result) 64)
 
 returns-3 : tie.Need-returns-3
 returns-3 c =

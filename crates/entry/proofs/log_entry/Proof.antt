@@ -6,6 +6,7 @@ use native.Mathlib.Omega.{arith}
 use borrow.Author.Needs.{needs}
 use borrow.Author.Tests.{not-true, not-false}
 use lib.ListN.{length}
+use Rattle.model.specs.InUse.{logsOf}
 use Rattle.model.specs.Table.{logStart}
 use Rattle.model.specs.Logs.{isThere, queried, logEntry}
 use Rattle.model.specs.Sound.{soundLogs}
@@ -20,11 +21,11 @@ use Rattle.entry.proofs.log_entry.Tie as tie
 fine : (e : tie.Else1) → logsFit (e .before .before .before .args .size) (length (e .before .before .before .args .logs .now)) ≡ true
 fine e = sym (e .before .logs-fit .ensures) ∙ not-false _ (e .if1 .left)
 
-sound : (e : tie.Else2) → soundLogs (e .before .before .before .before .before .args .size) (e .before .before .before .before .before .args .logs .now) ≡ true
+sound : (e : tie.Else2) → soundLogs (e .before .before .before .before .before .args .size) (logsOf (e .before .before .before .before .before .args .logs .now)) ≡ true
 sound e = sym (e .before .sound-logs .ensures) ∙ not-false _ (e .if2 .left)
 
 found : (e : tie.Else3)
-    → isThere (e .before .before .before .before .before .before .before .args .size) (e .before .before .before .before .before .before .before .args .logs .now) (e .before .before .before .before .before .before .before .args .rack) (e .before .before .before .before .before .before .before .args .lane) (e .before .before .before .before .before .before .before .args .place) ≡ true
+    → isThere (e .before .before .before .before .before .before .before .args .size) (logsOf (e .before .before .before .before .before .before .before .args .logs .now)) (e .before .before .before .before .before .before .before .args .rack) (e .before .before .before .before .before .before .before .args .lane) (e .before .before .before .before .before .before .before .args .place) ≡ true
 found e = sym (e .before .is-there .ensures) ∙ not-false _ (e .if3 .left)
 
 -- the entry lies in the table
@@ -35,7 +36,7 @@ inside e =
     let a = e .before .before .before .before .before .before .before .args in
     let f = fitting _ _ (fine (e .before .before .before .before)) in
     let t = there _ _ _ _ _ (found e) in
-    let m = length-most (a .logs .now) (logStart (a .size) (a .rack) (a .lane)) (a .size .rounds) in
+    let m = length-most (logsOf (a .logs .now)) (logStart (a .size) (a .rack) (a .lane)) (a .size .rounds) in
     omega (arith, f .1, t .place-there, m, log-fits _ _ _ (f .0) (t .rack-there) (t .lane-there))
 
 returns : tie.Need-returns

@@ -3,6 +3,7 @@ use mathlib.Core.Path.{_≡_, sym, _∙_}
 use mathlib.Core.Bool.{true}
 use borrow.Author.Needs.{needs}
 use borrow.Author.Tests.{not-true, not-false}
+use Rattle.model.specs.InUse.{tablesOf}
 use Rattle.model.specs.Table.{Tables}
 use Rattle.model.specs.Turn.{fits}
 use Rattle.model.specs.Fresh.{filled, freshCard}
@@ -15,7 +16,7 @@ use Rattle.fresh.proofs.fresh.Tie as tie
 lent : tie.Else1 → Tables
 lent c =
     let a = c .before .before .before .before .before .args in
-    record { cells = a .cells .now; logs = a .logs .now; decisions = a .decisions .now }
+    tablesOf (a .cells .now) (a .logs .now) (a .decisions .now)
 
 fitting : (c : tie.Else1) → fits (c .before .before .before .before .before .args .size) (lent c) ≡ true
 unfolding fits lengthsFit lent

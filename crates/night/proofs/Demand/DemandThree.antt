@@ -19,7 +19,7 @@ use Rattle.night.specs.View.{View}
 use Rattle.night.specs.Demands.{halfUp, Demand3}
 use Rattle.night.proofs.Demand.Tied.{Tie}
 use Rattle.night.proofs.Demand.Reached.{movesOf, historyOf, reached-steady, reached-tied, taken-accepted}
-use Rattle.night.proofs.Demand.Begins.{bytes-begin}
+use Rattle.night.proofs.Demand.Begins.{bytes-begin, reached-neat, reached-most}
 use Rattle.night.proofs.Demand.Numbers.{numbers-shown}
 use Rattle.night.proofs.Demand.Told.{entry-told}
 
@@ -54,7 +54,7 @@ module _ (s : Size) (tie : Tie s) (e : sizeFits s ≡ true) (turns : List (List 
   pub logs-begin : (p q lane : ℕ) → p < s .racks → q < s .racks → lane < s .lanes
       → oneBegins (logBytes card s C p lane) (logBytes card s C q lane) ≡ true
   logs-begin p q lane lp lq ll =
-      bytes-begin s C p q lane (logOf H p lane) (logOf H q lane) (view .logs-shown p lane lp ll) (view .logs-shown q lane lq ll)
+      bytes-begin s C (reached-neat s turns) p q lane lp lq ll (logOf H p lane) (logOf H q lane) (view .logs-shown p lane lp ll) (view .logs-shown q lane lq ll)
       (holds .agree lane ll p q lp lq)
 
   pub numbers-run : (rack lane place : ℕ) → rack < s .racks → lane < s .lanes → place < card .length s C rack lane
@@ -97,5 +97,5 @@ demand3 tie =
       rounds-finished = λ s e. rounds-finished s (tie s e) e;
       entries-held = λ s e. entries-held s (tie s e) e;
       lengths-counted = λ s e turns rack lane l ll. refl;
-      entries-told = λ s e turns. entry-told s (reached card s turns) (reached-steady s e turns);
+      entries-told = λ s e turns. entry-told s (reached card s turns) (reached-steady s e turns) (reached-most s turns e);
     }

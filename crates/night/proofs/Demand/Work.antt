@@ -48,7 +48,7 @@ module _ (s : Size) (c : Card) (h : History Marked) (tied : Tied s c h) (q : ℕ
   pub shown : RackView s h q (rackAt (c .racks) q)
   shown = tied .view .racks-shown q l
 
-  pub small : Sizes s
+  pub small : Sizes (c .tables .cells .form .most) s
   small = sizes s (fits-size s (c .tables) (tied .steady .fit))
 
   eight : q < 8

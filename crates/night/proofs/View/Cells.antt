@@ -2,14 +2,15 @@
 use mathlib.Core.Path.{_≡_, refl, sym, ap, _∙_}
 use mathlib.Core.Logic.{_⊎_, inl, inr, _≢_}
 use mathlib.Core.Option.{Option}
-use mathlib.Core.List.{List}
 use Prim.Native.Nat.{ℕ, suc, _<_}
 use native.Mathlib.Omega.{arith}
 use lib.ListN.{length}
 use Rattle.laws.proofs.Cases.{either, eq-or-ne}
 use Rattle.model.specs.declared.Size.{Size}
 use Rattle.model.specs.declared.Cell.{Cell}
-use Rattle.model.specs.Size.{cellsLength}
+use Rattle.model.specs.Size.{cellRecords}
+use Rattle.model.specs.Form.{lengthOf}
+use Rattle.model.specs.Record.{Cells}
 use Rattle.model.specs.Table.{cellIndex, readCell, writeCell}
 use Rattle.model.proofs.Record.{load-other}
 use Rattle.model.proofs.Table.{Spot, same-rack, same-lane, same-round}
@@ -45,12 +46,12 @@ module _ {X : Type 0} (slots : Object Marked → ℕ → Slot X) (objects : ℕ 
         (λ (d : r ≢ r₀). rw (putAt-round objects r₀ c₀ o r lane d) (elsewhere r lane p (inl d)))
 
 -- what the cells of a section show
-abbrev pub Shown : {X : Type 0} → (Option X → Cell) → (Object Marked → ℕ → Slot X) → ℕ → Size → List ℕ → (ℕ → ℕ → Object Marked) → Type 0
+abbrev pub Shown : {X : Type 0} → (Option X → Cell) → (Object Marked → ℕ → Slot X) → ℕ → Size → Cells → (ℕ → ℕ → Object Marked) → Type 0
 Shown show slots section s cells objects =
     (r lane q : ℕ) → r < s .rounds → lane < s .lanes → q < s .racks
     → readCell s cells section (suc r) lane q ≡ show ((slots (objects r lane) q) .cell)
 
-module _ {X : Type 0} (show : Option X → Cell) (slots : Object Marked → ℕ → Slot X) (section : ℕ) (s : Size) (cells : List ℕ)
+module _ {X : Type 0} (show : Option X → Cell) (slots : Object Marked → ℕ → Slot X) (section : ℕ) (s : Size) (cells : Cells)
     (objects : ℕ → ℕ → Object Marked) (shown : Shown show slots section s cells objects) (r₀ c₀ q : ℕ) (o : Object Marked) where
   -- none of its slots of this kind changes
   pub unchanged-shown : slots o ≡ slots (objects r₀ c₀) → Shown show slots section s cells (putAt objects r₀ c₀ o)
@@ -68,8 +69,8 @@ module _ {X : Type 0} (show : Option X → Cell) (slots : Object Marked → ℕ 
         (λ r lane p _. shown r lane p)
 
     -- a write into the rack's own cell
-    module _ (long : length cells ≡ cellsLength s) (inside : section < 3) (b₀ : r₀ < s .rounds) (l₀ : c₀ < s .lanes) (q₀ : q < s .racks) where
-      abbrev new : List ℕ
+    module _ (long : length (cells .bytes) ≡ lengthOf cells (cellRecords s)) (inside : section < 3) (b₀ : r₀ < s .rounds) (l₀ : c₀ < s .lanes) (q₀ : q < s .racks) where
+      abbrev new : Cells
       new = writeCell s cells section (suc r₀) c₀ q (show (a .cell))
 
       written-else : (r lane p : ℕ) → (r ≢ r₀) ⊎ ((lane ≢ c₀) ⊎ (p ≢ q)) → r < s .rounds → lane < s .lanes → p < s .racks
@@ -77,7 +78,7 @@ module _ {X : Type 0} (show : Option X → Cell) (slots : Object Marked → ℕ 
       written-else r lane p d b l t =
           let here = spot s section r₀ c₀ q inside b₀ l₀ q₀ in
           let there = spot s section r lane p inside b l t in
-          load-other cells (cellIndex s section (suc r₀) c₀ q) (cellIndex s section (suc r) lane p) (show (a .cell))
+          load-other cells (cellIndex s section (suc r₀) c₀ q) (show (a .cell)) (cellIndex s section (suc r) lane p)
           (λ f. either d
           (λ x. x (let g = same-round s section (suc r) lane p section (suc r₀) c₀ q there here f in omega arith))
           (λ y. either y

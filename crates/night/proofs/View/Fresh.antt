@@ -7,12 +7,13 @@ use native.Mathlib.Omega.{arith}
 use borrow.Author.Tests.{lt-ltb, ne-eqb}
 use lib.ListN.{replicate, getD-replicate}
 use Rattle.model.specs.declared.Size.{Size}
-use Rattle.model.specs.Size.{sizeFits, cellsLength, logsLength, decisionsLength, blockSteps}
+use Rattle.model.specs.Size.{sizeFits, decisionsLength, blockSteps, mostRounds}
+use Rattle.model.specs.InUse.{cellsLength, logsLength, cellForm, entryForm, cellsOf, logsOf}
 use Rattle.model.specs.Record.{noCue, noValue, noCell, cellAt, entryAt}
 use Rattle.model.specs.Table.{logStart, noRack, undecided, decisionIndex, rackAt, heldAt}
 use Rattle.model.specs.Fresh.{table, ownFirst, freshRack, freshRacks, freshCard}
 use Rattle.model.proofs.Sizes.{Sizes, sizes}
-use Rattle.model.proofs.Record.{cell-bytes, entry-bytes}
+use Rattle.steady.proofs.Fresh.{empty-at, empty-spare}
 use Rattle.model.proofs.Table.{decision-fits}
 use Rattle.steady.proofs.Elements.{getD-same, getD-table}
 use Rattle.steady.proofs.Logs.{length-is}
@@ -27,22 +28,23 @@ use Rattle.night.specs.View.{LogView, RackView, View}
 use Rattle.night.proofs.View.Past.{not-yet}
 
 -- zeros read as empty records
-empty-cell : (n i : ℕ) → cellAt (replicate n 0) i ≡ noCell
-empty-cell n i = cell-bytes (replicate n 0) i ∙ simp getD-same
+empty-cell : (n i : ℕ) → cellAt (cellsOf (replicate n 0)) i ≡ noCell
+empty-cell n i = empty-at cellForm n i
 
-empty-entry : (n i : ℕ) → entryAt (replicate n 0) i ≡ noCue
-empty-entry n i = entry-bytes (replicate n 0) i ∙ simp getD-same
+empty-entry : (n i : ℕ) → entryAt (logsOf (replicate n 0)) i ≡ noCue
+empty-entry n i = empty-at entryForm n i
 
-module _ (s : Size) (small : Sizes s) where
-  empty-log : (q lane : ℕ) → LogView s (replicate (logsLength s) 0) q lane start
+module _ (s : Size) (small : Sizes mostRounds s) where
+  empty-log : (q lane : ℕ) → LogView s (logsOf (replicate (logsLength s) 0)) q lane start
   empty-log q lane =
       record {
         length =
-            length-is s (record { table = replicate (logsLength s) 0; start = logStart s q lane; length = 0 })
+            length-is s (record { table = logsOf (replicate (logsLength s) 0); start = logStart s q lane; length = 0 })
             (record {
               short = omega arith;
               used = λ i h. absurd (omega arith);
               rest = λ i h g. empty-entry (logsLength s) (logStart s q lane + i);
+              clean = λ i h. empty-spare entryForm (logsLength s) (logStart s q lane + i);
             });
         entries = λ place g. absurd (omega arith);
       }

@@ -1,7 +1,6 @@
 -- A lane's log in its table shows a log of the history, and the three rules of settling give on both sides the same.
 use mathlib.Core.Path.{_≡_, refl, sym, ap, _∙_}
 use mathlib.Core.Logic.{_≢_}
-use mathlib.Core.List.{List}
 use mathlib.Core.Bool.{Bool, true, false, cond}
 use Prim.Native.Nat.{ℕ, suc, _+_, _≤_, _<_}
 use native.Mathlib.Omega.{arith}
@@ -12,10 +11,10 @@ use Rattle.laws.proofs.Cases.{either, bool, eq-or-ne}
 use Rattle.model.specs.declared.Size.{Size}
 use Rattle.model.specs.declared.Cue.{Cue}
 use Rattle.model.specs.declared.Value.{Value}
-use Rattle.model.specs.Record.{entryAt, adopted, committed}
+use Rattle.model.specs.Record.{entryAt, adopted, committed, Logs}
 use Rattle.model.specs.Settle as card
-use Rattle.model.proofs.Record.{length-store-entry, load-store-entry, load-other-entry}
-use Rattle.steady.proofs.Append.{Room}
+use Rattle.model.proofs.Record.{length-store, load-store, load-other}
+use Rattle.steady.proofs.Append.{Rooms}
 use Rattle.protocol.specs.AdoptCommit.{Marked}
 use Rattle.protocol.specs.Log.{Log, start, _▷_, size, count, last, ownNext}
 use Rattle.protocol.specs.Settle as protocol
@@ -44,7 +43,7 @@ earlier : (log : Log) (c : Cue) (place : ℕ) → place < size log → entryIn (
 earlier log c place h = rw (ne-eqb place (size log) (λ e. omega arith))
 
 -- what a log says to its rack
-module _ (table : List ℕ) (from rack : ℕ) where
+module _ (table : Logs) (from rack : ℕ) where
   own-cues : (log : Log) → ((place : ℕ) → place < size log → entryAt table (from + place) ≡ entryIn log place)
       → card.ownCues table from rack (size log) ≡ count rack log
   unfolding card.ownCues
@@ -73,7 +72,7 @@ committed-longer l false v = omega arith
 
 module _ (s : Size) where
   -- one more entry
-  append-shown : (l : card.Log) (log : Log) → LogShown l log → Room s l → (c : Cue) → l .length < s .rounds → LogShown (card.append l c) (log ▷ c)
+  append-shown : (l : card.Log) (log : Log) → LogShown l log → Rooms s l → (c : Cue) → l .length < s .rounds → LogShown (card.append l c) (log ▷ c)
   append-shown l log h room c short =
       let at = l .start + l .length in
       let e = h .length in
@@ -84,34 +83,34 @@ module _ (s : Size) where
             either (eq-or-ne place (size log))
             (λ (f : place ≡ size log).
             let p : place ≡ l .length = omega arith in
-            rw (eq-eqb place (size log) f, p) (load-store-entry (l .table) at c (room (l .length) short)))
+            rw (eq-eqb place (size log) f, p) (load-store (l .table) at c (room (l .length) short)))
             (λ (d : place ≢ size log).
-            load-other-entry (l .table) at (l .start + place) c (λ x. omega (arith, d))
+            load-other (l .table) at c (l .start + place) (λ x. omega (arith, d))
             ∙ h .entries place (omega arith)
             ∙ sym (earlier log c place (omega arith)));
       }
 
   -- either rule appends a cue or does nothing
-  module _ (l : card.Log) (room : Room s l) where
+  module _ (l : card.Log) (room : Rooms s l) where
     rule-shown : (log : Log) → LogShown l log → (b : Bool) (c : Cue) → cond b (card.append l c) l .length ≤ s .rounds
         → LogShown (cond b (card.append l c) l) (cond b (log ▷ c) log)
     rule-shown log h true c short = append-shown l log h room c short
     rule-shown log h false c short = h
 
-    rule-room : (b : Bool) (c : Cue) → Room s (cond b (card.append l c) l)
-    rule-room true c = λ i g. rw (length-store-entry (l .table) (l .start + l .length) c) (room i g)
+    rule-room : (b : Bool) (c : Cue) → Rooms s (cond b (card.append l c) l)
+    rule-room true c = λ i g. rw (length-store (l .table) (l .start + l .length) c) (room i g)
     rule-room false c = room
 
   module _ (l : card.Log) (log : Log) (h : LogShown l log) where
-    missed-shown : Room s l → (v : Value) → card.appendMissed l v .length ≤ s .rounds → LogShown (card.appendMissed l v) (protocol.appendMissed log v)
+    missed-shown : Rooms s l → (v : Value) → card.appendMissed l v .length ≤ s .rounds → LogShown (card.appendMissed l v) (protocol.appendMissed log v)
     unfolding card.appendMissed protocol.appendMissed
     missed-shown room v short = rw (← h .length) (rule-shown l room log h (eqb (v .place) (suc (l .length))) (v .previous) short)
 
-    missed-room : Room s l → (v : Value) → Room s (card.appendMissed l v)
+    missed-room : Rooms s l → (v : Value) → Rooms s (card.appendMissed l v)
     unfolding card.appendMissed
     missed-room room v = rule-room l room (eqb (v .place) (suc (l .length))) (v .previous)
 
-    committed-as : Room s l → (b : Bool) (v : Value) → let m : Marked = record { committed = b; value = v } in
+    committed-as : Rooms s l → (b : Bool) (v : Value) → let m : Marked = record { committed = b; value = v } in
         card.appendCommitted l (markedCell m) .length ≤ s .rounds → LogShown (card.appendCommitted l (markedCell m)) (protocol.appendCommitted log m)
     unfolding card.appendCommitted protocol.appendCommitted
     committed-as room true v short = rw (← h .length) (rule-shown l room log h (eqb (v .place) (l .length)) (v .cue) short)
@@ -141,7 +140,7 @@ module _ (s : Size) where
     next-shown rack m = next-as rack (m .committed) (m .value)
 
   -- rules 1 and 2
-  pub settled-shown : (l : card.Log) (log : Log) → LogShown l log → Room s l → (m : Marked) (v : Value)
+  pub settled-shown : (l : card.Log) (log : Log) → LogShown l log → Rooms s l → (m : Marked) (v : Value)
       → card.settledLog l (markedCell m) v .length ≤ s .rounds → LogShown (card.settledLog l (markedCell m) v) (protocol.settledLog log m v)
   unfolding protocol.settledLog
   settled-shown l log h room m v short =

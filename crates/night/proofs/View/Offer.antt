@@ -2,7 +2,6 @@
 use mathlib.Core.Path.{_≡_, refl, sym, ap, _∙_}
 use mathlib.Core.Logic.{_⊎_, inl, inr, _≢_}
 use mathlib.Core.Bool.{true, false, cond}
-use mathlib.Core.List.{List}
 use Prim.Native.Nat.{ℕ, zero, suc, _≤_, _<_}
 use native.Mathlib.Omega.{arith}
 use borrow.Author.Tests.{lt-ltb}
@@ -11,8 +10,9 @@ use Rattle.laws.proofs.Cases.{either, eq-or-ne, lt-or-ge}
 use Rattle.model.specs.declared.Size.{Size}
 use Rattle.model.specs.declared.Rack as card
 use Rattle.model.specs.declared.Kind.the-variants.{Offer}
-use Rattle.model.specs.Size.{cellsLength}
-use Rattle.model.specs.Record.{noCell, offered}
+use Rattle.model.specs.Size.{cellRecords}
+use Rattle.model.specs.Form.{lengthOf}
+use Rattle.model.specs.Record.{noCell, offered, Cells}
 use Rattle.model.specs.Table.{Tables, offers, firstCells, secondCells, cellIndex, readCell, heldAt}
 use Rattle.model.specs.Kind.{laneAt}
 use Rattle.model.specs.Step.{advanced, offersOf, stepBy}
@@ -38,15 +38,15 @@ use Rattle.night.proofs.View.RackChange.{racked, allRacks, rack-changed
 use Rattle.night.proofs.View.Leading.{leading-firsts, leading-seconds}
 
 -- the cells when a rack has offered in the first lanes
-module _ (s : Size) (cells : List ℕ) (q : ℕ) (r : card.Rack) (there : q < s .racks) (low : 1 ≤ r .round) (high : r .round ≤ s .rounds)
-    (long : length cells ≡ cellsLength s) where
-  abbrev made : ℕ → List ℕ
+module _ (s : Size) (cells : Cells) (q : ℕ) (r : card.Rack) (there : q < s .racks) (low : 1 ≤ r .round) (high : r .round ≤ s .rounds)
+    (long : length (cells .bytes) ≡ lengthOf cells (cellRecords s)) where
+  abbrev made : ℕ → Cells
   made n = offersOf s cells q r n
 
   offer-spot : (lane : ℕ) → lane < s .lanes → Spot s offers (r .round) lane q
   offer-spot lane l = record { section-there = omega arith; round-low = low; round-high = high; lane-there = l; rack-there = there }
 
-  made-long : (n : ℕ) → length (made n) ≡ cellsLength s
+  made-long : (n : ℕ) → length (made n .bytes) ≡ lengthOf (made n) (cellRecords s)
   unfolding offersOf
   made-long zero = long
   made-long (suc n) = length-written s (made n) offers (r .round) n q (offered (heldAt r n)) ∙ made-long n
@@ -57,7 +57,7 @@ module _ (s : Size) (cells : List ℕ) (q : ℕ) (r : card.Rack) (there : q < s 
   unfolding offersOf
   made-else zero h section round lane p at d = refl
   made-else (suc n) h section round lane p at d =
-      load-other (made n) (cellIndex s offers (r .round) n q) (cellIndex s section round lane p) (offered (heldAt r n))
+      load-other (made n) (cellIndex s offers (r .round) n q) (offered (heldAt r n)) (cellIndex s section round lane p)
       (λ e. either d
       (λ x. x (same-section s section round lane p offers (r .round) n q at (offer-spot n h) e))
       (λ y. either y
@@ -72,7 +72,7 @@ module _ (s : Size) (cells : List ℕ) (q : ℕ) (r : card.Rack) (there : q < s 
       either (eq-or-ne lane n)
       (λ (e : lane ≡ n). rw e (cell-written s (made n) offers (r .round) n q (offered (heldAt r n)) (made-long n) (offer-spot n h)))
       (λ (d : lane ≢ n).
-      load-other (made n) (cellIndex s offers (r .round) n q) (cellIndex s offers (r .round) lane q) (offered (heldAt r n))
+      load-other (made n) (cellIndex s offers (r .round) n q) (offered (heldAt r n)) (cellIndex s offers (r .round) lane q)
       (λ e. d (same-lane s offers (r .round) lane q offers (r .round) n q (offer-spot lane (omega arith)) (offer-spot n h) e))
       ∙ made-here n (omega arith) lane (omega (arith, d)))
 
@@ -95,7 +95,7 @@ module _ (s : Size) (t : Tables) (h : History Marked) (move : Turn) (r : card.Ra
   abbrev a′ : Rack
   a′ = enter (h .racks q) answering
 
-  abbrev cells : List ℕ
+  abbrev cells : Cells
   cells = offersOf s (t .cells) q r (s .lanes)
 
   low : 1 ≤ r .round

@@ -17,17 +17,19 @@ use Rattle.model.specs.declared.Size.{Size}
 use Rattle.model.specs.declared.Value.{Value}
 use Rattle.model.specs.declared.Cell.{Cell}
 use Rattle.model.specs.declared.Rack as card
-use Rattle.model.specs.Size.{logsLength}
-use Rattle.model.specs.Record.{noCue, noValue, noCell, sameCue, entryAt}
+use Rattle.model.specs.Size.{logRecords}
+use Rattle.model.specs.Form.{lengthOf}
+use Rattle.model.specs.Record.{noCue, noValue, noCell, sameCue, entryAt, Logs}
 use Rattle.model.specs.Table.{logStart, lengthFrom, heldAt, resultAt, newsAt, secondCells}
 use Rattle.model.specs.Settle as model
 use Rattle.model.specs.Settle.{Settled, settleLane, settleLanes, laneLog, settledRack, tooLong}
 use Rattle.model.specs.Sound.{soundLogs, soundValue}
+use Rattle.model.proofs.Record.{room}
 use Rattle.model.proofs.Table.{entry-fits, entry-rack, entry-lane}
 use Rattle.steady.proofs.Facts.{Done}
 use Rattle.steady.proofs.Cells.{full-value}
 use Rattle.steady.proofs.Logs.{LogSound, started, length-is, logs-facts}
-use Rattle.steady.proofs.Append.{Room, Grown, same-length, settled-sound, settled-grown}
+use Rattle.steady.proofs.Append.{Rooms, Grown, same-length, settled-sound, settled-grown}
 use Rattle.steady.proofs.Settling as steady
 use Rattle.protocol.specs.AdoptCommit.{Marked}
 use Rattle.protocol.specs.Log.{Log, size}
@@ -36,7 +38,7 @@ use Rattle.night.specs.View.{markedCell, LogView}
 use Rattle.night.proofs.View.Logs.{LogShown, settled-shown, next-shown}
 
 -- a log whose records stay shows what it showed
-module _ (s : Size) (logs logs′ : List ℕ) where
+module _ (s : Size) (logs logs′ : Logs) where
   same-from : (most i : ℕ) → ((j : ℕ) → j < most → entryAt logs′ (i + j) ≡ entryAt logs (i + j)) → lengthFrom logs′ i most ≡ lengthFrom logs i most
   unfolding lengthFrom
   same-from zero i f = refl
@@ -54,7 +56,7 @@ module _ (s : Size) (logs logs′ : List ℕ) where
         entries = λ place g. f place (omega arith) ∙ v .entries place g;
       }
 
-module _ (s : Size) (q : ℕ) (there : q < s .racks) (logs : List ℕ) (r : card.Rack)
+module _ (s : Size) (q : ℕ) (there : q < s .racks) (logs : Logs) (r : card.Rack)
     (logOf : ℕ → Log) (result : ℕ → Marked) (news : ℕ → Value)
     (results-shown : (lane : ℕ) → lane < s .lanes → resultAt r lane ≡ markedCell (result lane))
     (news-shown : (lane : ℕ) → lane < s .lanes → newsAt r lane ≡ news lane) where
@@ -103,8 +105,8 @@ module _ (s : Size) (q : ℕ) (there : q < s .racks) (logs : List ℕ) (r : card
         in
         omega arith
 
-    room : Room s before
-    room i g = rw (so-far .sized) (entry-fits s q n i there h g)
+    rooms : Rooms s before
+    rooms i g = room (after .logs) (logRecords s) (logStart s q n + i) (so-far .sized) (entry-fits s q n i there h g)
 
     sound-before : LogSound s before
     sound-before = logs-facts s (after .logs) (so-far .logs-sound) q n there h
@@ -116,18 +118,18 @@ module _ (s : Size) (q : ℕ) (there : q < s .racks) (logs : List ℕ) (r : card
     news-fine = rw (← news-shown n h) (finished n h .news-sound)
 
     grown : Grown s before now
-    grown = settled-grown s before (markedCell (result n)) (news n) sound-before room result-fine news-fine short
+    grown = settled-grown s before (markedCell (result n)) (news n) sound-before rooms result-fine news-fine short
 
     shown : LogShown now log′
     shown =
         settled-shown s before (logOf n)
         (record { length = view .left n (omega arith) h .length; entries = view .left n (omega arith) h .entries })
-        room (result n) (news n) short
+        rooms (result n) (news n) short
 
     -- the log at work
     here : LogView s (now .table) q n log′
     here =
-        let fine = settled-sound s before (markedCell (result n)) (news n) sound-before room result-fine news-fine short in
+        let fine = settled-sound s before (markedCell (result n)) (news n) sound-before rooms result-fine news-fine short in
         let same = started s now (logStart s q n) (grown .start) fine in
         record {
           length = length-is s (record { table = now .table; start = logStart s q n; length = now .length }) same ∙ shown .length;
@@ -177,7 +179,7 @@ module _ (s : Size) (q : ℕ) (there : q < s .racks) (logs : List ℕ) (r : card
         })
 
   pub settling-view : s .lanes ≤ 4 → tooLong s q logs r ≡ false → ((lane : ℕ) → lane < s .lanes → Done s (resultAt r lane) (newsAt r lane))
-      → length logs ≡ logsLength s → soundLogs s logs ≡ true → length (r .held) ≡ 4
+      → length (logs .bytes) ≡ lengthOf logs (logRecords s) → soundLogs s logs ≡ true → length (r .held) ≡ 4
       → ((lane : ℕ) → lane < s .lanes → LogView s logs q lane (logOf lane))
       → (n : ℕ) → n ≤ s .lanes → SettlingView n (settleLanes s q logs r n)
   unfolding settleLanes

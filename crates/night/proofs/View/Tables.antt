@@ -8,7 +8,8 @@ use lib.ListN.{length}
 use Rattle.model.specs.declared.Size.{Size}
 use Rattle.model.specs.declared.Value.{Value}
 use Rattle.model.specs.declared.Cell.{Cell}
-use Rattle.model.specs.Size.{cellsLength}
+use Rattle.model.specs.Size.{cellRecords}
+use Rattle.model.specs.Form.{lengthOf}
 use Rattle.model.specs.Record.{noCell, offered}
 use Rattle.model.specs.Table.{Tables, offers, firstCells, secondCells, readCell, writeCell, decisionAt}
 use Rattle.steady.proofs.Writes.{celled, other-section}
@@ -68,7 +69,7 @@ module _ (s : Size) (t : Tables) (h : History Marked) (v : TablesView s t h) (r�
         logs-shown = v .logs-shown;
       }
 
-  module _ (long : length (t .cells) ≡ cellsLength s) (b₀ : r₀ < s .rounds) (l₀ : c₀ < s .lanes) (q₀ : q < s .racks) where
+  module _ (long : length (t .cells .bytes) ≡ lengthOf (t .cells) (cellRecords s)) (b₀ : r₀ < s .rounds) (l₀ : c₀ < s .lanes) (q₀ : q < s .racks) where
     -- a write leaves the other sections
     other : (section : ℕ) (c : Cell) → section < 3 → (section′ : ℕ) → section′ < 3 → section′ ≢ section → (r lane p : ℕ)
         → r < s .rounds → lane < s .lanes → p < s .racks

@@ -60,7 +60,7 @@ module _ (s : Size) (c : Card) (h : History Marked) (steady : Steady s c) (inv :
 
   -- a step that no refusal forbids
   module _ (there : q < s .racks) (free : refusalOf s (c .tables) q r (laneNamed turn) (sourceNamed turn) ≡ 0) where
-    small : Sizes s
+    small : Sizes (c .tables .cells .form .most) s
     small = sizes s (fits-size s (c .tables) (steady .fit))
 
     eight : q < 8

@@ -2,6 +2,7 @@
 use Prim.Native.Nat.{_<_}
 use native.Mathlib.Omega.{arith}
 use borrow.Author.Needs.{needs}
+use Rattle.model.specs.InUse.{tablesOf}
 use Rattle.model.specs.Table.{Card}
 use Rattle.play.proofs.Turned.{few, tested-rack, turned-rack}
 use Rattle.play.proofs.play.Statement.{statement}
@@ -11,7 +12,7 @@ use Rattle.play.proofs.play.Tie as tie
 abbrev lent : tie.After-rack-named → Card
 lent c =
     let a = c .before .before .before .before .before .args in
-    record { tables = record { cells = a .cells .now; logs = a .logs .now; decisions = a .decisions .now }; racks = a .t5 }
+    record { tables = tablesOf (a .cells .now) (a .logs .now) (a .decisions .now); racks = a .t5 }
 
 there : (c : tie.After-rack-named) → c .rack-named .result < 8
 there c = few _ (lent c) (c .before .before .before .before .before .pre) _ _ (c .rack-named .ensures)

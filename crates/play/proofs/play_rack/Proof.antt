@@ -3,6 +3,7 @@ use mathlib.Core.Path.{_≡_, sym, _∙_}
 use mathlib.Core.Bool.{false}
 use native.Mathlib.Omega.{arith}
 use borrow.Author.Needs.{needs}
+use Rattle.model.specs.InUse.{tablesOf}
 use Rattle.model.specs.Turn.{badRecord, rackOf}
 use Rattle.model.proofs.Turns.{Good, good}
 use Rattle.step.specs.Ready.{Tested}
@@ -19,7 +20,7 @@ whole : (e : tie.Else1) → Good (e .before .before .before .before .before .bef
 whole e = good _ _ (fine e)
 
 tested : (e : tie.Else1)
-    → Tested (e .before .before .before .before .before .before .args .size) (record { cells = e .before .before .before .before .before .before .args .cells .now; logs = e .before .before .before .before .before .before .args .logs .now; decisions = e .before .before .before .before .before .before .args .decisions .now }) (rackOf (e .before .before .before .before .before .before .args .turn .now)) (e .before .before .before .before .before .before .args .r)
+    → Tested (e .before .before .before .before .before .before .args .size) (tablesOf (e .before .before .before .before .before .before .args .cells .now) (e .before .before .before .before .before .before .args .logs .now) (e .before .before .before .before .before .before .args .decisions .now)) (rackOf (e .before .before .before .before .before .before .args .turn .now)) (e .before .before .before .before .before .before .args .r)
 tested e = e .before .before .before .before .before .before .pre (fine e)
 
 act-requires : tie.Need-act-requires

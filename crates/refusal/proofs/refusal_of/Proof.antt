@@ -1,6 +1,7 @@
 -- Each way out has decided the tests before it; what they have shown is what the later ones require.
 use mathlib.Core.Path.{_≡_, sym, _∙_}
 use mathlib.Core.Bool.{false}
+use Rattle.model.specs.InUse.{tablesOf, cellsOf}
 use Rattle.model.specs.Turn.{finished, misnamed, notOffered, decidedElse, refusalOf}
 use Rattle.step.specs.Ready.{Ready}
 use Rattle.step.proofs.Ready.{ready}
@@ -18,7 +19,7 @@ past-5 : (c : tie.Else2) → misnamed (c .before .before .before .before .before
 past-5 c = sym (c .before .misnamed .ensures) ∙ c .if2 .left
 
 past-6 : (c : tie.Else3)
-    → notOffered (c .before .before .before .before .before .before .before .before .before .args .size) (c .before .before .before .before .before .before .before .before .before .args .r) (c .before .before .before .before .before .before .before .before .before .args .cells .now) (c .before .before .before .before .before .before .before .before .before .args .lane) (c .before .before .before .before .before .before .before .before .before .args .source) ≡ false
+    → notOffered (c .before .before .before .before .before .before .before .before .before .args .size) (c .before .before .before .before .before .before .before .before .before .args .r) (cellsOf (c .before .before .before .before .before .before .before .before .before .args .cells .now)) (c .before .before .before .before .before .before .before .before .before .args .lane) (c .before .before .before .before .before .before .before .before .before .args .source) ≡ false
 past-6 c = sym (c .before .not-offered .ensures) ∙ c .if3 .left
 
 past-7 : (c : tie.Else4)
@@ -26,7 +27,7 @@ past-7 : (c : tie.Else4)
 past-7 c = sym (c .before .decided-else .ensures) ∙ c .if4 .left
 
 ready-4 : (c : tie.Else1)
-    → Ready (c .before .before .before .before .before .args .size) (record { cells = c .before .before .before .before .before .args .cells .now; logs = c .before .before .before .before .before .args .logs .now; decisions = c .before .before .before .before .before .args .decisions .now }) (c .before .before .before .before .before .args .rack) (c .before .before .before .before .before .args .r)
+    → Ready (c .before .before .before .before .before .args .size) (tablesOf (c .before .before .before .before .before .args .cells .now) (c .before .before .before .before .before .args .logs .now) (c .before .before .before .before .before .args .decisions .now)) (c .before .before .before .before .before .args .rack) (c .before .before .before .before .before .args .r)
 ready-4 c = ready _ _ _ _ (c .before .before .before .before .before .pre) (past-4 c)
 
 named-5 : (c : tie.Else2) → Named (c .before .before .before .before .before .before .before .args .size) (c .before .before .before .before .before .before .before .args .r) (c .before .before .before .before .before .before .before .args .lane) (c .before .before .before .before .before .before .before .args .source)

@@ -6,6 +6,7 @@ use Prim.Native.Nat.{ℕ, _+_, _*_, _-_, _≤_, _<_}
 use native.Mathlib.Numerals.{add-one}
 use borrow.Author.Needs.{needs}
 use Rattle.model.proofs.Sizes.{sizes}
+use Rattle.model.specs.InUse.{logsOf}
 use Rattle.model.specs.Settle.{laneLog, Settled, settleLane, settleLanes}
 use Rattle.settle.specs.Lent.{Lent}
 use Rattle.settle.proofs.Lanes.{fits-in-turn}
@@ -18,7 +19,7 @@ abbrev Inv-loop : tie.InvT-loop
 Inv-loop logs₀ size rack k q₀ lane₀ logs q lane =
     (lane ≤ k)
     × ((length logs ≡ length logs₀)
-    × (_≡_ {A = Settled} (record { logs = logs; rack = q }) (settleLanes size rack logs₀ q₀ lane)))
+    × (_≡_ {A = Settled} (record { logs = logsOf logs; rack = q }) (settleLanes size rack (logsOf logs₀) q₀ lane)))
 
 abbrev μ-loop : tie.MeasureT-loop
 μ-loop logs₀ size rack k q₀ lane₀ logs q lane = k - lane
@@ -34,14 +35,14 @@ lent c =
     record { sizes = p .sizes; exact = c .before .loop .inv .1 .0 ∙ p .exact; rack-there = p .rack-there }
 
 short : (c : tie.In-loop Inv-loop μ-loop)
-    → laneLog (c .before .before .before .args .size) (c .before .before .before .args .rack) (c .before .loop .logs) (c .before .loop .q) (c .before .loop .lane) .length
+    → laneLog (c .before .before .before .args .size) (c .before .before .before .args .rack) (logsOf (c .before .loop .logs)) (c .before .loop .q) (c .before .loop .lane) .length
     ≤ c .before .before .before .args .size .rounds
 short c =
     let loop = c .before .loop in
     let begin = c .before .before .before in
     let a = begin .args in
     subst (λ (x : Settled). laneLog (a .size) (a .rack) (x .logs) (x .rack) (loop .lane) .length ≤ a .size .rounds) (sym (loop .inv .1 .1))
-    (fits-in-turn (a .size) (a .rack) (a .logs .now) (a .r) (begin .pre .room) (loop .lane) (c .loop-test .taken))
+    (fits-in-turn (a .size) (a .rack) (logsOf (a .logs .now)) (a .r) (begin .pre .room) (loop .lane) (c .loop-test .taken))
 
 room : (c : tie.After-log-start Inv-loop μ-loop)
     → 2 * (c .log-start .result + c .before .before .before .before .args .size .rounds) ≤ length (c .before .before .loop .logs)

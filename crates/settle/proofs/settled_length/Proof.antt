@@ -4,6 +4,7 @@ use native.Mathlib.Numerals.{add-one}
 use native.Mathlib.Omega.{arith}
 use borrow.Author.Needs.{needs}
 use lib.Dec.{eqb}
+use Rattle.model.specs.InUse.{logsOf}
 use Rattle.model.proofs.Length.{length-most}
 use Rattle.settle.specs.Fits.{logAt}
 use Rattle.settle.proofs.Lane.{grown-most, settled-length}
@@ -13,7 +14,7 @@ use Rattle.settle.proofs.settled_length.Tie as tie
 short : (c : tie.After-length-from) → c .length-from .result ≤ 64
 short c =
     let a = c .before .before .args in
-    omega (arith, length-most (a .logs .now) (a .start) (a .rounds))
+    omega (arith, length-most (logsOf (a .logs .now)) (a .start) (a .rounds))
 
 grown-if-requires-2 : tie.Need-grown-if-requires-2
 grown-if-requires-2 c κs =
@@ -26,7 +27,7 @@ returns : tie.Need-returns
 returns c =
     let length = c .before .before .before .before .before in
     let a = length .before .before .args in
-    rw (settled-length (logAt (a .logs .now) (a .start) (a .rounds)) (a .result) (a .news), c .grown-if2 .ensures)
+    rw (settled-length (logAt (logsOf (a .logs .now)) (a .start) (a .rounds)) (a .result) (a .news), c .grown-if2 .ensures)
     (rw (c .before .before .before .grown-if .ensures, length .length-from .ensures, add-one))
 
 pub settled-length-spec : {M : Type 1} → statement M

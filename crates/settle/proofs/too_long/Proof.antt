@@ -5,6 +5,7 @@ use mathlib.Core.Bool.{not}
 use Prim.Native.Nat.{_≤_, _-_}
 use native.Mathlib.Numerals.{add-one}
 use borrow.Author.Needs.{needs}
+use Rattle.model.specs.InUse.{logsOf}
 use Rattle.laws.specs.Below.{below}
 use Rattle.model.specs.Settle.{tooLong}
 use Rattle.settle.specs.Fits.{laneFits}
@@ -12,7 +13,7 @@ use Rattle.settle.proofs.too_long.Statement.{statement}
 use Rattle.settle.proofs.too_long.Tie as tie
 
 abbrev Inv-loop : tie.InvT-loop
-Inv-loop logs size rack r k all₀ lane₀ all lane = (lane ≤ k) × (all ≡ below lane (laneFits size rack logs r))
+Inv-loop logs size rack r k all₀ lane₀ all lane = (lane ≤ k) × (all ≡ below lane (laneFits size rack (logsOf logs) r))
 
 abbrev μ-loop : tie.MeasureT-loop
 μ-loop logs size rack r k all₀ lane₀ all lane = k - lane

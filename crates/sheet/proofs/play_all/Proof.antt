@@ -4,6 +4,7 @@ use Prim.Native.Nat.{_+_, _*_, _≤_}
 use native.Mathlib.Omega.{arith}
 use borrow.Author.Needs.{needs}
 use lib.ListN.{length}
+use Rattle.model.specs.InUse.{tablesOf, cardOf}
 use Rattle.model.proofs.Sizes.{Exact, fits-exact}
 use Rattle.sheet.specs.Night.{Played}
 use Rattle.sheet.proofs.play_all.Statement.{statement}
@@ -11,7 +12,7 @@ use Rattle.sheet.proofs.play_all.Tie as tie
 
 abbrev Inv-loop : tie.InvT-loop
 Inv-loop fd size cells₀ logs₀ decisions₀ out₀ night₀ left₀ cells logs decisions out night left =
-    Played size (record { tables = record { cells = cells; logs = logs; decisions = decisions }; racks = night .racks }) (night .read) (night .taken)
+    Played size (cardOf cells logs decisions (night .racks)) (night .read) (night .taken)
     × ((length out ≡ length out₀) × (night .read + 512 * left ≤ 2305843009213693952))
 
 abbrev μ-loop : tie.MeasureT-loop
@@ -21,10 +22,10 @@ loop-holds : tie.Need-loop-holds Inv-loop μ-loop
 loop-holds c = (c .before .before .before .before .pre .played, (search needs, omega arith))
 
 -- the lengths are those of the size, before and after
-exact-first : (c : tie.At-loop Inv-loop μ-loop) → Exact (c .before .before .before .before .before .args .size) (record { cells = c .before .before .before .before .before .args .cells .now; logs = c .before .before .before .before .before .args .logs .now; decisions = c .before .before .before .before .before .args .decisions .now })
+exact-first : (c : tie.At-loop Inv-loop μ-loop) → Exact (c .before .before .before .before .before .args .size) (tablesOf (c .before .before .before .before .before .args .cells .now) (c .before .before .before .before .before .args .logs .now) (c .before .before .before .before .before .args .decisions .now))
 exact-first c = fits-exact _ _ (c .before .before .before .before .before .pre .played .steady .fit)
 
-exact-last : (c : tie.At-loop Inv-loop μ-loop) → Exact (c .before .before .before .before .before .args .size) (record { cells = c .loop .cells; logs = c .loop .logs; decisions = c .loop .decisions })
+exact-last : (c : tie.At-loop Inv-loop μ-loop) → Exact (c .before .before .before .before .before .args .size) (tablesOf (c .loop .cells) (c .loop .logs) (c .loop .decisions))
 exact-last c = fits-exact _ _ (c .loop .inv .0 .steady .fit)
 
 play-some-requires : tie.Need-play-some-requires Inv-loop μ-loop

@@ -9,7 +9,7 @@ use Rattle.sheet.proofs.print_night.Tie as tie
 play-all-requires : tie.Need-play-all-requires
 play-all-requires c κs =
     record {
-      played = record { steady = filled-steady _ _ _ (c .before .before .before .before .before .before .before .before .before .before .before .fresh .ensures) (c .before .before .before .before .before .before .before .before .before .before .before .before .before .before .before .before .before .before .before .before .pre .fit); fewer = omega arith };
+      played = record { steady = filled-steady _ _ _ _ _ (c .before .before .before .before .before .before .before .before .before .before .before .fresh .ensures) (c .before .before .before .before .before .before .before .before .before .before .before .before .before .before .before .before .before .before .before .before .pre .fit); fewer = omega arith };
       room = search needs;
       few = omega arith;
     }

@@ -4,7 +4,7 @@ use mathlib.Core.Bool.{true}
 use native.Mathlib.Omega.{arith}
 use borrow.Author.Needs.{needs}
 use borrow.Author.Tests.{not-true, not-false}
-use Rattle.model.specs.Size.{sizeFits, logsLength}
+use Rattle.model.specs.Size.{sizeFits, logRecords}
 use Rattle.model.proofs.Sizes.{sizes, records-most}
 use Rattle.sizes.specs.Lengths.{logsFit}
 use Rattle.sizes.proofs.logs_fit.Statement.{statement}
@@ -21,7 +21,7 @@ mul-result : tie.Need-mul-result
 mul-result c = omega (arith, records-most _ (sizes _ (fine (c .before))), c .records .ensures)
 
 returns-2 : tie.Need-returns-2
-unfolding logsFit logsLength
+unfolding logsFit logRecords
 returns-2 c = rw (fine (c .before), c .records .ensures)
 
 pub logs-fit-spec : {M : Type 1} → statement M

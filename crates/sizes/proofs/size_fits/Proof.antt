@@ -1,11 +1,11 @@
 -- The tests are the definition's own.
 use borrow.Author.Needs.{needs}
-use Rattle.model.specs.Size.{sizeFits}
+use Rattle.model.specs.Size.{sizeUpTo}
 use Rattle.sizes.proofs.size_fits.Statement.{statement}
 use Rattle.sizes.proofs.size_fits.Tie as tie
 
 returns : tie.Need-returns
-unfolding sizeFits
+unfolding sizeUpTo
 returns c = search needs
 
 pub size-fits-spec : {M : Type 1} → statement M

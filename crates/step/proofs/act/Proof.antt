@@ -8,7 +8,7 @@ use Rattle.step.proofs.act.Statement.{statement}
 use Rattle.step.proofs.act.Tie as tie
 
 kind-of-requires : tie.Need-kind-of-requires
-kind-of-requires c κs = sizes _ (c .before .before .before .before .pre .0 .tested .size) .racks-high
+kind-of-requires c κs = sizes _ (c .before .before .before .before .pre .0 .tested .exact .size) .racks-high
 
 offer-requires : tie.Need-offer-requires
 offer-requires c κs = at-cells (c .before .before .before .before .before .before .before .before .pre .0)

@@ -3,6 +3,7 @@ use mathlib.Core.Path.{_≡_}
 use Prim.Native.Nat.{_≤_, _-_}
 use native.Mathlib.Omega.{arith}
 use borrow.Author.Needs.{needs}
+use Rattle.model.specs.InUse.{logsOf}
 use Rattle.text.proofs.Lines.{entry-most}
 use Rattle.tell.proofs.Logs.{EntriesTo, entries-none, entries-next, entry-text}
 use Rattle.tell.proofs.tell_entries.Statement.{statement}
@@ -10,7 +11,7 @@ use Rattle.tell.proofs.tell_entries.Tie as tie
 
 abbrev Inv-loop : tie.InvT-loop
 Inv-loop lanes logs lists start lane count at out₀ place₀ i₀ out place i =
-    (i ≤ count) × EntriesTo lanes lists logs start lane at out₀ i (record { bytes = out; place = place })
+    (i ≤ count) × EntriesTo lanes lists (logsOf logs) start lane at out₀ i (record { bytes = out; place = place })
 
 abbrev μ-loop : tie.MeasureT-loop
 μ-loop lanes logs lists start lane count at out₀ place₀ i₀ out place i = count - i
@@ -45,8 +46,8 @@ loop-again c =
     let i = loop .loop .i in
     let fits = loop .before .before .before .before .fits in (
       omega arith,
-      entries-next (a .lanes) (a .lists .now) (a .logs .now) (a .start) (a .lane) (a .at) (a .out .now) i _ _ _ (loop .loop .inv .1) (told .entry-line .ensures)
-          (entry-text (a .lanes) (a .lists .now) (a .logs .now) (a .start) (a .lane) i _ _ _ _ (cue .entry .ensures) (coded .before .before .wide .ensures) (coded .before .wide2 .ensures) (coded .code-in .ensures))
+      entries-next (a .lanes) (a .lists .now) (logsOf (a .logs .now)) (a .start) (a .lane) (a .at) (a .out .now) i _ _ _ (loop .loop .inv .1) (told .entry-line .ensures)
+          (entry-text (a .lanes) (a .lists .now) (logsOf (a .logs .now)) (a .start) (a .lane) i _ _ _ _ (cue .entry .ensures) (coded .before .before .wide .ensures) (coded .before .wide2 .ensures) (coded .code-in .ensures))
           (entry-most i _ _ _ (omega arith) (omega arith) (omega arith) (omega arith)),
     )
 

@@ -6,6 +6,7 @@ use native.Mathlib.Omega.{arith}
 use borrow.Author.Needs.{needs}
 use lib.Dec.{eqb}
 use lib.ListN.{length, drop}
+use Rattle.model.specs.InUse.{tablesOf, cardOf}
 use Rattle.model.specs.Table.{Card}
 use Rattle.model.specs.Night.{pieces}
 use Rattle.model.proofs.Sizes.{Exact, fits-exact}
@@ -18,9 +19,9 @@ use Rattle.tell.proofs.tell_turns.Tie as tie
 
 abbrev Inv-loop : tie.InvT-loop
 Inv-loop size cells₀ logs₀ decisions₀ bytes index out₀ all₀ place₀ taken₀ number₀ at₀ cells logs decisions out all place taken number at =
-    Going size (record { tables = record { cells = cells₀; logs = logs₀; decisions = decisions₀ }; racks = all₀ }) bytes out₀ index
+    Going size (cardOf cells₀ logs₀ decisions₀ all₀) bytes out₀ index
     (record {
-      card = record { tables = record { cells = cells; logs = logs; decisions = decisions }; racks = all };
+      card = cardOf cells logs decisions all;
       text = record { bytes = out; place = place };
       taken = taken;
     })
@@ -45,7 +46,7 @@ less c = omega (arith, fewer (c .before .before .before .before .before .before 
 abbrev card : tie.After-rack-named Inv-loop μ-loop → Card
 card c =
     let l = c .before .before .before .before .loop in
-    record { tables = record { cells = l .cells; logs = l .logs; decisions = l .decisions }; racks = l .all }
+    cardOf (l .cells) (l .logs) (l .decisions) (l .all)
 
 playable : (c : tie.After-rack-named Inv-loop μ-loop) → Playable (c .before .before .before .before .before .before .before .before .before .before .args .size) (card c)
 playable c = record { fit = c .before .before .before .before .loop .inv .steady .fit; ok = c .before .before .before .before .loop .inv .steady .ok }
@@ -73,10 +74,10 @@ loop-again c =
     (told-turn _ _ _ _ _ _ _ _ _ _ turned (c .before .before .before .tell-reply .ensures) (c .one-taken .ensures))
 
 -- the lengths are those of the size, before and after
-exact-first : (c : tie.At-loop Inv-loop μ-loop) → Exact (c .before .before .before .before .before .before .args .size) (record { cells = c .before .before .before .before .before .before .args .cells .now; logs = c .before .before .before .before .before .before .args .logs .now; decisions = c .before .before .before .before .before .before .args .decisions .now })
+exact-first : (c : tie.At-loop Inv-loop μ-loop) → Exact (c .before .before .before .before .before .before .args .size) (tablesOf (c .before .before .before .before .before .before .args .cells .now) (c .before .before .before .before .before .before .args .logs .now) (c .before .before .before .before .before .before .args .decisions .now))
 exact-first c = fits-exact _ _ (c .before .before .before .before .before .before .pre .fit)
 
-exact-last : (c : tie.At-loop Inv-loop μ-loop) → Exact (c .before .before .before .before .before .before .args .size) (record { cells = c .loop .cells; logs = c .loop .logs; decisions = c .loop .decisions })
+exact-last : (c : tie.At-loop Inv-loop μ-loop) → Exact (c .before .before .before .before .before .before .args .size) (tablesOf (c .loop .cells) (c .loop .logs) (c .loop .decisions))
 exact-last c = fits-exact _ _ (c .loop .inv .steady .fit)
 
 pub tell-turns-spec : {M : Type 1} → statement M

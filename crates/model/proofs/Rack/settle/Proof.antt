@@ -10,6 +10,7 @@ use lib.ListN.{length}
 use Rattle.model.specs.declared.Value.{Value}
 use Rattle.model.specs.declared.Cell.{Cell}
 use Rattle.model.specs.Table.{resultAt, newsAt}
+use Rattle.model.specs.InUse.{logsOf}
 use Rattle.model.specs.Settle.{Log, partLog, appendMissed, appendCommitted, settledLog, stateOf, holding, settledRack}
 use Rattle.model.proofs.Length.{length-most, own-most}
 use Rattle.model.proofs.Rules.{missed, none-missed, due, none-due, committed-least, own-next, hold-result, hold-own, alone, appended, settled-part}
@@ -33,7 +34,7 @@ start₀ c = c .before .before .before .before .before .before .before .before
 abbrev log₀ : tie.After-struct-known2 → Log
 log₀ c = alone (bytes (start₀ c)) (c .before .length-from .result)
 
-log₀-is : (c : tie.After-struct-known2) → log₀ c ≡ partLog (bytes (start₀ c))
+log₀-is : (c : tie.After-struct-known2) → log₀ c ≡ partLog (logsOf (bytes (start₀ c)))
 log₀-is c = ap (alone (bytes (start₀ c))) (c .before .length-from .ensures)
 
 abbrev start₁ : tie.Joined1 → tie.Start
@@ -42,13 +43,13 @@ start₁ c = start₀ (c .before)
 abbrev log₁ : tie.Joined1 → Log
 log₁ c = alone (c .if1 .log) (c .if1 .length)
 
-log₁-is : (c : tie.Joined1) → log₁ c ≡ appendMissed (partLog (bytes (start₁ c))) (news (start₁ c))
+log₁-is : (c : tie.Joined1) → log₁ c ≡ appendMissed (partLog (logsOf (bytes (start₁ c)))) (news (start₁ c))
 log₁-is c =
     let log = log₀ (c .before) in
     let v = news (start₁ c) in
     rw (← log₀-is (c .before))
     (⊎-elim
-    (λ w. appended (log .table) (log .length) (v .previous) (w .5 ∙ w .2 .ensures) (w .6) ∙ sym (missed log v (w .0 .taken ∙ add-one (log .length))))
+    (λ w. appended (log .table .bytes) (log .length) (v .previous) (w .5 ∙ w .2 .ensures) (w .6) ∙ sym (missed log v (w .0 .taken ∙ add-one (log .length))))
     (λ w. (λ i. alone (w .1 i) (w .2 i)) ∙ sym (none-missed log v (rw add-one at (w .0 .left))))
     (c .if1 .came))
 
@@ -61,13 +62,13 @@ start₂ c = start₁ (c .before .before)
 abbrev log₂ : tie.Joined2 → Log
 log₂ c = alone (c .if2 .log) (c .if2 .length)
 
-log₂-is : (c : tie.Joined2) → log₂ c ≡ settledLog (partLog (bytes (start₂ c))) (result (start₂ c)) (news (start₂ c))
+log₂-is : (c : tie.Joined2) → log₂ c ≡ settledLog (partLog (logsOf (bytes (start₂ c)))) (result (start₂ c)) (news (start₂ c))
 log₂-is c =
     let log = log₁ (c .before .before) in
     let r = result (start₂ c) in
     rw (← log₁-is (c .before .before))
     (⊎-elim
-    (λ w. appended (log .table) (log .length) (r .value .cue) (w .6 ∙ w .2 .ensures) (w .7) ∙ sym (due log r (w .0 .taken)))
+    (λ w. appended (log .table .bytes) (log .length) (r .value .cue) (w .6 ∙ w .2 .ensures) (w .7) ∙ sym (due log r (w .0 .taken)))
     (λ w. (λ i. alone (w .1 i) (w .2 i)) ∙ sym (none-due log r (w .0 .left)))
     (c .if2 .came))
 
@@ -107,14 +108,14 @@ behind c = c .before .before .before .before .before .before
 number-fits : tie.Need-add-t40
 number-fits c =
     let two = behind c in
-    omega (arith, short two, own-most (two .if2 .log) 0 (start₂ two .args .rack) (two .if2 .length), c .before .before .before .own-cues .ensures)
+    omega (arith, short two, own-most (logsOf (two .if2 .log)) 0 (start₂ two .args .rack) (two .if2 .length), c .before .before .before .own-cues .ensures)
 
 returns : tie.Need-returns
 unfolding settledRack
 returns c =
     let two = c .before in
     let a = start₂ two .args in
-    settled-part (a .log .now) (a .t1) (a .lane) (a .rack) (log₂ two) (log₂-is two)
+    settled-part (logsOf (a .log .now)) (a .t1) (a .lane) (a .rack) (log₂ two) (log₂-is two)
     (ap (holding (a .t1) (a .lane)) (sym (hold-result (a .rack) (stateOf (a .rack) (log₂ two)) (result (start₂ two)) (c .if3 .taken))))
 
 returns-2 : tie.Need-returns-2
@@ -123,7 +124,7 @@ returns-2 c =
     let two = behind c in
     let a = start₂ two .args in
     let state = stateOf (a .rack) (log₂ two) in
-    settled-part (a .log .now) (a .t1) (a .lane) (a .rack) (log₂ two) (log₂-is two)
+    settled-part (logsOf (a .log .now)) (a .t1) (a .lane) (a .rack) (log₂ two) (log₂-is two)
     (ap (holding (a .t1) (a .lane))
     (own-next (a .rack) state (c .before .before .before .own-cues .ensures) (c .before .last-entry .ensures)
     ∙ sym (hold-own (a .rack) state (result (start₂ two)) (c .before .before .before .before .before .if3 .left))))
@@ -139,7 +140,7 @@ settle-spec =
     (λ c. search needs)
     (λ c κs. search needs)
     (λ c. search needs)
-    (λ c. omega (arith, length-most (bytes (start₀ c)) 0 (length (bytes (start₀ c)) / 2), c .before .length-from .ensures))
+    (λ c. omega (arith, length-most (logsOf (bytes (start₀ c))) 0 (length (bytes (start₀ c)) / 2), c .before .length-from .ensures))
     (λ c κs. omega (arith, room₁ (c .before)))
     (λ c. search needs)
     (λ c κs. omega (arith, room₂ (c .before), sized₁ (c .before .before .before)))

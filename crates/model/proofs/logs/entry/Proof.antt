@@ -1,12 +1,14 @@
 -- The record by its two bytes.
-use mathlib.Core.Path.{sym}
 use borrow.Author.Needs.{needs}
-use Rattle.model.proofs.Record.{entry-bytes}
+use lib.Seq.{getD-drop}
+use native.Mathlib.Nat.{add-zero}
+use Rattle.model.specs.Form.{recordAt}
 use Rattle.model.proofs.logs.entry.Statement.{statement}
 use Rattle.model.proofs.logs.entry.Tie as tie
 
 returns : tie.Need-returns
-returns c = sym (entry-bytes _ _)
+unfolding recordAt
+returns c = simp (getD-drop, add-zero)
 
 pub entry-spec : {M : Type 1} → statement M
 entry-spec =

@@ -5,12 +5,13 @@ use native.Mathlib.Omega.{arith}
 use native.Mathlib.Nat.{add-zero, zero-add, sub-zero}
 use borrow.Author.Needs.{needs}
 use Rattle.model.specs.Table.{lengthFrom}
+use Rattle.model.specs.InUse.{logsOf}
 use Rattle.model.proofs.Length.{length-zero, length-next, length-most}
 use Rattle.model.proofs.logs.length_from.Statement.{statement}
 use Rattle.model.proofs.logs.length_from.Tie as tie
 
 abbrev Inv-loop : tie.InvT-loop
-Inv-loop table at most i₀ i = (i ≤ most) × (lengthFrom table at most ≡ i + lengthFrom table (at + i) (most - i))
+Inv-loop table at most i₀ i = (i ≤ most) × (lengthFrom (logsOf table) at most ≡ i + lengthFrom (logsOf table) (at + i) (most - i))
 
 abbrev μ-loop : tie.MeasureT-loop
 μ-loop table at most i₀ i = most - i
@@ -23,7 +24,7 @@ returns c =
     let loop = c .before .before .before in
     let a = loop .before .before .args in
     let i = loop .loop .i in
-    let none = length-zero (a .table .now) (a .at + i) (a .most - i) (sym (c .before .zero-at .ensures) ∙ c .if1 .taken) in
+    let none = length-zero (logsOf (a .table .now)) (a .at + i) (a .most - i) (sym (c .before .zero-at .ensures) ∙ c .if1 .taken) in
     omega (arith, loop .loop .inv .1)
 
 loop-again : tie.Need-loop-again Inv-loop μ-loop
@@ -31,7 +32,7 @@ loop-again c =
     let loop = c .before .before .before in
     let a = loop .before .before .args in
     let one =
-    length-next (a .table .now) (a .at) (loop .loop .i) (a .most) (c .before .before .loop-test .taken)
+    length-next (logsOf (a .table .now)) (a .at) (loop .loop .i) (a .most) (c .before .before .loop-test .taken)
     (sym (c .before .zero-at .ensures) ∙ c .if1 .left)
     in
     (omega arith, omega (arith, loop .loop .inv .1))
@@ -41,7 +42,7 @@ returns-2 c =
     let loop = c .before in
     let a = loop .before .before .args in
     let i = loop .loop .i in
-    let none = length-most (a .table .now) (a .at + i) (a .most - i) in
+    let none = length-most (logsOf (a .table .now)) (a .at + i) (a .most - i) in
     omega (arith, loop .loop .inv .1)
 
 pub length-from-spec : {M : Type 1} → statement M

@@ -5,12 +5,13 @@ use native.Mathlib.Omega.{arith}
 use native.Mathlib.Numerals.{add-one}
 use borrow.Author.Needs.{needs}
 use Rattle.model.specs.Settle.{ownCues}
+use Rattle.model.specs.InUse.{logsOf}
 use Rattle.model.proofs.Length.{own-most}
 use Rattle.model.proofs.logs.own_cues.Statement.{statement}
 use Rattle.model.proofs.logs.own_cues.Tie as tie
 
 abbrev Inv-loop : tie.InvT-loop
-Inv-loop table start rack count own₀ i₀ own i = (i ≤ count) × (own ≡ ownCues table start rack i)
+Inv-loop table start rack count own₀ i₀ own i = (i ≤ count) × (own ≡ ownCues (logsOf table) start rack i)
 
 abbrev μ-loop : tie.MeasureT-loop
 μ-loop table start rack count own₀ i₀ own i = count - i
@@ -27,7 +28,7 @@ add-own : tie.Need-add-own Inv-loop μ-loop
 unfolding ownCues
 add-own c =
     let a = c .before .before .before .before .args in
-    omega (arith, own-most (a .table .now) (a .start) (a .rack) (suc (c .before .before .loop .i)), c .own-at .ensures, c .before .before .loop .inv .1)
+    omega (arith, own-most (logsOf (a .table .now)) (a .start) (a .rack) (suc (c .before .before .loop .i)), c .own-at .ensures, c .before .before .loop .inv .1)
 
 returns : tie.Need-returns Inv-loop μ-loop
 returns c =

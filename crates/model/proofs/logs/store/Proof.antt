@@ -3,12 +3,12 @@ use native.Mathlib.Numerals.{add-one}
 use native.Mathlib.Omega.{arith}
 use borrow.Author.Needs.{needs}
 use lib.ListN.{length-set}
-use Rattle.model.specs.Record.{storeEntry}
+use Rattle.model.specs.Form.{stored}
 use Rattle.model.proofs.logs.store.Statement.{statement}
 use Rattle.model.proofs.logs.store.Tie as tie
 
 returns : tie.Need-returns
-unfolding storeEntry
+unfolding stored
 returns c = simp add-one
 
 pub store-spec : {M : Type 1} → statement M

@@ -4,13 +4,14 @@ use mathlib.Core.Path.{_≡_}
 use native.Mathlib.Numerals.{add-one}
 use native.Mathlib.Nat.{le-antisymm}
 use borrow.Author.Needs.{needs}
+use Rattle.model.specs.InUse.{cellsOf, logsOf}
 use Rattle.laws.specs.Below.{below}
 use Rattle.model.specs.Sound.{soundLane}
 use Rattle.sound.proofs.racks.sound_lanes.Statement.{statement}
 use Rattle.sound.proofs.racks.sound_lanes.Tie as tie
 
 abbrev Inv-loop : tie.InvT-loop
-Inv-loop size cells logs rack r fine₀ lane₀ fine lane = (lane ≤ 4) × (fine ≡ below lane (soundLane size cells logs rack r))
+Inv-loop size cells logs rack r fine₀ lane₀ fine lane = (lane ≤ 4) × (fine ≡ below lane (soundLane size (cellsOf cells) (logsOf logs) rack r))
 
 abbrev μ-loop : tie.MeasureT-loop
 μ-loop size cells logs rack r fine₀ lane₀ fine lane = 4 - lane

@@ -24,7 +24,7 @@ tested c =
     let going = c .before .before in
     record {
       size = lent .size;
-      exact = lent .cells-exact;
+      exact = lent .cells;
       clock = sym (going .before .sound-clock .ensures) ∙ not-false _ (going .if1 .left);
       first-lane = sym (c .before .sound-first .ensures) ∙ not-false _ (c .if2 .left);
     }
@@ -32,7 +32,7 @@ tested c =
 sound-choice-requires : tie.Need-sound-choice-requires
 sound-choice-requires c κs =
     let pre = c .before .before .before .before .before .before .before .before .pre in
-    (tested (c .before), (pre .0 .decisions-exact, pre .1 .0))
+    (tested (c .before), (pre .0 .decisions, pre .1 .0))
 
 sound-read-back-requires : tie.Need-sound-read-back-requires
 sound-read-back-requires c κs = (tested (c .before .before), c .before .before .before .before .before .before .before .before .before .pre .1 .1)
@@ -40,7 +40,7 @@ sound-read-back-requires c κs = (tested (c .before .before), c .before .before 
 sound-lanes-requires : tie.Need-sound-lanes-requires
 sound-lanes-requires c κs =
     let pre = c .before .before .before .before .before .before .before .before .before .before .pre in
-    (tested (c .before .before .before), (pre .0 .logs-exact, pre .1 .1))
+    (tested (c .before .before .before), (pre .0 .logs, pre .1 .1))
 
 returns-3 : tie.Need-returns-3
 unfolding soundRack

@@ -4,6 +4,7 @@ use mathlib.Core.Path.{_≡_}
 use native.Mathlib.Numerals.{add-one}
 use native.Mathlib.Nat.{le-antisymm}
 use borrow.Author.Needs.{needs}
+use Rattle.model.specs.InUse.{tablesOf}
 use Rattle.laws.specs.Below.{below}
 use Rattle.model.specs.Table.{rackAt}
 use Rattle.model.specs.Sound.{soundState, soundRacks}
@@ -13,7 +14,7 @@ use Rattle.sound.proofs.racks.sound_racks.Tie as tie
 abbrev Inv-loop : tie.InvT-loop
 Inv-loop size cells logs decisions racks fine₀ rack₀ fine rack =
     (rack ≤ 8)
-    × (fine ≡ below rack (λ rack. soundState size (record { cells = cells; logs = logs; decisions = decisions }) rack (rackAt racks rack)))
+    × (fine ≡ below rack (λ rack. soundState size (tablesOf cells logs decisions) rack (rackAt racks rack)))
 
 abbrev μ-loop : tie.MeasureT-loop
 μ-loop size cells logs decisions racks fine₀ rack₀ fine rack = 8 - rack

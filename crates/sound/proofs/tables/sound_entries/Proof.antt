@@ -1,11 +1,13 @@
 -- The invariant: every record passed is sound, as a used one or an unused one.
 use Prim.Native.Nat.{_+_, _≤_, _-_}
 use mathlib.Core.Path.{_≡_}
-use mathlib.Core.Bool.{cond}
+use mathlib.Core.Bool.{cond, _&&_}
 use native.Mathlib.Numerals.{add-one}
 use native.Mathlib.Nat.{le-antisymm}
 use lib.Dec.{ltb}
 use borrow.Author.Needs.{needs}
+use Rattle.model.specs.Form.{spareAt}
+use Rattle.model.specs.InUse.{logsOf}
 use Rattle.laws.specs.Below.{below}
 use Rattle.model.specs.Record.{noCue, sameCue, entryAt}
 use Rattle.model.specs.Sound.{soundCue, soundEntries}
@@ -15,7 +17,7 @@ use Rattle.sound.proofs.tables.sound_entries.Tie as tie
 abbrev Inv-loop : tie.InvT-loop
 Inv-loop size logs start used rounds fine₀ i₀ fine i =
     (i ≤ rounds)
-    × (fine ≡ below i (λ i. cond (ltb i used) (soundCue size (entryAt logs (start + i))) (sameCue (entryAt logs (start + i)) noCue)))
+    × (fine ≡ below i (λ i. cond (ltb i used) (soundCue size (entryAt (logsOf logs) (start + i))) (sameCue (entryAt (logsOf logs) (start + i)) noCue) && spareAt (logsOf logs) (start + i)))
 
 abbrev μ-loop : tie.MeasureT-loop
 μ-loop size logs start used rounds fine₀ i₀ fine i = rounds - i

@@ -4,6 +4,7 @@ use mathlib.Core.Path.{_≡_}
 use native.Mathlib.Numerals.{add-one}
 use native.Mathlib.Nat.{le-antisymm}
 use borrow.Author.Needs.{needs}
+use Rattle.model.specs.InUse.{logsOf}
 use Rattle.laws.specs.Below.{below}
 use Rattle.model.specs.Sound.{soundLog, soundLogs}
 use Rattle.sound.proofs.tables.sound_logs.Statement.{statement}
@@ -11,7 +12,7 @@ use Rattle.sound.proofs.tables.sound_logs.Tie as tie
 
 abbrev Inv-loop : tie.InvT-loop
 Inv-loop size logs racks fine₀ rack₀ fine rack =
-    (rack ≤ racks) × (fine ≡ below rack (λ rack. below (size .lanes) (λ lane. soundLog size logs rack lane)))
+    (rack ≤ racks) × (fine ≡ below rack (λ rack. below (size .lanes) (λ lane. soundLog size (logsOf logs) rack lane)))
 
 abbrev μ-loop : tie.MeasureT-loop
 μ-loop size logs racks fine₀ rack₀ fine rack = racks - rack

@@ -4,6 +4,7 @@ use mathlib.Core.Path.{_≡_}
 use native.Mathlib.Numerals.{add-one}
 use native.Mathlib.Nat.{le-antisymm}
 use borrow.Author.Needs.{needs}
+use Rattle.model.specs.InUse.{logsOf}
 use Rattle.laws.specs.Below.{below}
 use Rattle.model.specs.Sound.{soundLog}
 use Rattle.sound.proofs.tables.sound_rack_logs.Statement.{statement}
@@ -11,7 +12,7 @@ use Rattle.sound.proofs.tables.sound_rack_logs.Tie as tie
 
 abbrev Inv-loop : tie.InvT-loop
 Inv-loop size logs rack lanes fine₀ lane₀ fine lane =
-    (lane ≤ lanes) × (fine ≡ below lane (λ lane. soundLog size logs rack lane))
+    (lane ≤ lanes) × (fine ≡ below lane (λ lane. soundLog size (logsOf logs) rack lane))
 
 abbrev μ-loop : tie.MeasureT-loop
 μ-loop size logs rack lanes fine₀ lane₀ fine lane = lanes - lane

@@ -5,6 +5,7 @@ use native.Mathlib.Omega.{arith}
 use native.Mathlib.Numerals.{add-one}
 use native.Mathlib.Nat.{le-antisymm}
 use borrow.Author.Needs.{needs}
+use Rattle.model.specs.InUse.{cellsOf}
 use Rattle.laws.specs.Below.{below}
 use Rattle.model.specs.Sound.{soundRecord, soundSection}
 use Rattle.sound.proofs.Extent.{extent, section-start, section-fits}
@@ -13,7 +14,7 @@ use Rattle.sound.proofs.tables.sound_section.Tie as tie
 
 abbrev Inv-loop : tie.InvT-loop
 Inv-loop size cells section count start fine₀ i₀ fine i =
-    (i ≤ count) × (fine ≡ below i (λ i. soundRecord size cells section (start + i)))
+    (i ≤ count) × (fine ≡ below i (λ i. soundRecord size (cellsOf cells) section (start + i)))
 
 abbrev μ-loop : tie.MeasureT-loop
 μ-loop size cells section count start fine₀ i₀ fine i = count - i
