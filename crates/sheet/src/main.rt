@@ -20,7 +20,7 @@ const GIVEN: usize = 5;
 const CUES: usize = 8200;
 
 // How many bytes of turns.rec are read at a time: 512 records.
-const PART: usize = 2048;
+const PART: usize = 4 * 512;
 
 // 2^52 parts are 2^63 bytes, more than a file can have: so the loop over them has an end.
 const PARTS: u64 = 4_503_599_627_370_496;
@@ -29,22 +29,22 @@ const PARTS: u64 = 4_503_599_627_370_496;
 const LIST: usize = 128;
 
 // The cue lists of the largest size: 8 racks, 4 lanes.
-const LISTS: usize = 4096;
+const LISTS: usize = 8 * 4 * LIST;
 
 // The cells of the largest size: 24 bytes for each of 8 racks, 4 lanes and 64 rounds.
-const CELLS: usize = 49152;
+const CELLS: usize = 24 * 8 * 4 * 64;
 
 // The logs of the largest size: 2 bytes for each of 8 racks, 4 lanes and 64 rounds.
-const LOGS: usize = 4096;
+const LOGS: usize = 2 * 8 * 4 * 64;
 
 // The decisions of the largest size: a byte for each of 4 lanes and 64 rounds.
-const DECISIONS: usize = 256;
+const DECISIONS: usize = 4 * 64;
 
 // Room for any line: `lineMost` bounds them all.
 const LINE: usize = 128;
 
 // Room for what is printed at once: a line of each record of a part, or the 65 lines of a log.
-const OUT: usize = 65536;
+const OUT: usize = 512 * LINE;
 
 // The night so far: the racks, how many turns were read and taken, and whether there are more or a failure has been told.
 struct Night {
