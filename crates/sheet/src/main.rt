@@ -1,5 +1,5 @@
 // Prints the sheet of a night from the files size.rec, cues.rec and turns.rec. What is printed is made by the proved functions of `tell`,
-// `text`, `cues` and `fresh`; here it is only read, called and written.
+// `text`, `cues` and `fresh`; files are read and lines written by `files`; here these are only called.
 ghost use mathlib.Core.Path.{_≡_};
 ghost use mathlib.Core.Bool.{true};
 ghost use Prim.Native.Nat.{_+_, _*_, _≤_, _<_};
@@ -10,29 +10,42 @@ ghost use Rattle.model.specs.Cues.{listsFit};
 ghost use Rattle.tell.specs.Cut.{cuesRead};
 ghost use Rattle.sheet.specs.Night.{Played, PartReady, PartDone, RackReady, LogsReady, NightReady};
 ghost use Rattle.sheet.specs.Cut.{CuesOf};
+use files::File;
 use model::Rack;
 use model::Size;
 
-// How many bytes of turns.rec are read at a time: 512 records.
-const PART: usize = 2048;
+// How many bytes of size.rec are read: one more than "4 bytes", so that a longer file is seen.
+const GIVEN: usize = 5;
 
 // How many bytes of cues.rec are read: `cuesRead` says why no more.
 const CUES: usize = 8200;
 
+// How many bytes of turns.rec are read at a time: 512 records.
+const PART: usize = 4 * 512;
+
 // 2^52 parts are 2^63 bytes, more than a file can have: so the loop over them has an end.
 const PARTS: u64 = 4_503_599_627_370_496;
 
-// A file that was opened: its number, below 0 if it is missing, or a failure that has been told.
-struct File {
-    failed: bool,
-    fd: i32,
-}
+// The bytes of a lane's cue list: "at most 64 each", 2 bytes for a code.
+const LIST: usize = 128;
 
-// What reading a file gave: its bytes' number, or a failure that has been told.
-struct Got {
-    failed: bool,
-    count: usize,
-}
+// The cue lists of the largest size: 8 racks, 4 lanes.
+const LISTS: usize = 8 * 4 * LIST;
+
+// The cells of the largest size: 24 bytes for each of 8 racks, 4 lanes and 64 rounds.
+const CELLS: usize = 24 * 8 * 4 * 64;
+
+// The logs of the largest size: 2 bytes for each of 8 racks, 4 lanes and 64 rounds.
+const LOGS: usize = 2 * 8 * 4 * 64;
+
+// The decisions of the largest size: a byte for each of 4 lanes and 64 rounds.
+const DECISIONS: usize = 4 * 64;
+
+// Room for any line: `lineMost` bounds them all.
+const LINE: usize = 128;
+
+// Room for what is printed at once: a line of each record of a part, or the 65 lines of a log.
+const OUT: usize = 512 * LINE;
 
 // The night so far: the racks, how many turns were read and taken, and whether there are more or a failure has been told.
 struct Night {
@@ -41,63 +54,6 @@ struct Night {
     taken: u64,
     more: bool,
     failed: bool,
-}
-
-// After a read that came short: the file has ended, or else its reading failed, which is told.
-fn has_ended(fd: i32, path: &[u8]) -> bool {
-    let mut one = [0u8; 1];
-    let got = libc::read(fd, &mut one);
-    if got != 0 {
-        os::fail(path);
-        return false;
-    }
-    true
-}
-
-// Writes to standard output, or tells the failure.
-fn print(text: &[u8]) -> bool {
-    let is_written = io::write_all(1, text);
-    if !is_written {
-        os::fail(b"write");
-    }
-    is_written
-}
-
-// Opens a file to read. "A missing file counts as empty": it gives a number below 0 and no failure; any other failure is told.
-fn open(path: &[u8]) -> File {
-    let fd = os::open_read(path);
-    let mut failed = false;
-    if fd < 0 {
-        failed = os::errno() != libc::ENOENT;
-    }
-    if failed {
-        os::fail(path);
-    }
-    File { failed, fd }
-}
-
-// The first bytes of a file, at most as many as there is room for.
-fn load(path: &[u8], buf: &mut [u8]) -> Got
-    ensures { λ r. ⌜ r .count ≤ length (now (buf .exit)) ⌝ }
-{
-    let file = open(path);
-    let fd = file.fd;
-    if fd < 0 {
-        return Got {
-            failed: file.failed,
-            count: 0,
-        };
-    }
-    let count = io::read_full(fd, buf);
-    let mut fine = true;
-    if count < buf.len() {
-        fine = has_ended(fd, path);
-    }
-    libc::close(fd);
-    Got {
-        failed: !fine,
-        count,
-    }
 }
 
 // One part of turns.rec read, played and told.
@@ -114,14 +70,9 @@ fn play_some(
     ensures { λ r. ⌜ PartDone size (cardOf (now (cells .exit)) (now (logs .exit)) (now (decisions .exit)) (r .racks)) (night .read) (r .read) (r .taken) ⌝ }
 {
     let mut buf = [0u8; PART];
-    let n = io::read_full(fd, &mut buf);
+    let got = files::read_part(fd, b"turns.rec", &mut buf);
     let racks = night.racks;
-    let mut fine = true;
-    let whole = n == PART;
-    if !whole {
-        fine = has_ended(fd, b"turns.rec");
-    }
-    if !fine {
+    if got.failed {
         return Night {
             racks,
             read: night.read,
@@ -130,6 +81,7 @@ fn play_some(
             failed: true,
         };
     }
+    let n = got.count;
     let count = tell::records_in(&buf[..n]);
     let told = tell::tell_turns(
         size,
@@ -143,12 +95,12 @@ fn play_some(
     );
     let place = told.place;
     let after = told.racks;
-    let is_written = print(&out[..place]);
+    let is_written = files::print(&out[..place]);
     Night {
         racks: after,
         read: night.read + count,
         taken: night.taken + told.taken,
-        more: whole & is_written,
+        more: !got.ended & is_written,
         failed: !is_written,
     }
 }
@@ -170,7 +122,7 @@ fn play_all(
         racks,
         read: 0,
         taken: 0,
-        more: fd >= 0,
+        more: true,
         failed: false,
     };
     let mut left = PARTS;
@@ -199,7 +151,7 @@ fn print_rack(
     let mut lane: usize = 0;
     while lane < lanes {
         let place = tell::tell_log(size, logs, lists, rack, lane, finished, out);
-        let is_written = print(&out[..place]);
+        let is_written = files::print(&out[..place]);
         if !is_written {
             return false;
         }
@@ -227,13 +179,13 @@ fn print_racks(size: Size, logs: &[u8], lists: &[u8], racks: [Rack; 8], out: &mu
 
 // Opens turns.rec and prints "the size line".
 fn start(size: Size) -> File {
-    let file = open(b"turns.rec");
+    let file = files::open(b"turns.rec");
     if file.failed {
         return file;
     }
-    let mut out = [0u8; 128];
+    let mut out = [0u8; LINE];
     let place = text::size_line(&mut out, 0, size);
-    let fine = print(&out[..place]);
+    let fine = files::print(&out[..place]);
     File {
         failed: !fine,
         fd: file.fd,
@@ -245,7 +197,7 @@ fn print_turns(read: u64, taken: u64, out: &mut [u8]) -> bool
     requires { ⌜ (taken ≤ read) × (65536 ≤ length (now out)) ⌝ }
 {
     let place = text::turns_line(out, 0, read, taken, read - taken);
-    print(&out[..place])
+    files::print(&out[..place])
 }
 
 // What is printed when all turns are played.
@@ -285,10 +237,10 @@ fn print_night(
 fn print_sheet(fd: i32, size: Size, lists: &[u8])
     requires { ⌜ (sizeFits size ≡ true) × (listsFit (size .racks) (size .lanes) (now lists) ≡ true) ⌝ }
 {
-    let mut cells = [0u8; 49152];
-    let mut logs = [0u8; 4096];
-    let mut decisions = [0u8; 256];
-    let mut out = [0u8; 65536];
+    let mut cells = [0u8; CELLS];
+    let mut logs = [0u8; LOGS];
+    let mut decisions = [0u8; DECISIONS];
+    let mut out = [0u8; OUT];
     let count = sizes::records(size);
     let a = 24 * count;
     let b = 2 * count;
@@ -306,16 +258,16 @@ fn print_sheet(fd: i32, size: Size, lists: &[u8])
 
 // "the first bad cue record prints `bad cues` and its index from 0, alone"
 fn print_bad_cues(index: u64) {
-    let mut out = [0u8; 128];
+    let mut out = [0u8; LINE];
     let place = text::bad_cues(&mut out, 0, index);
-    print(&out[..place]);
+    files::print(&out[..place]);
 }
 
 // "prints `bad size` alone"
 fn print_bad_size() {
-    let mut out = [0u8; 128];
+    let mut out = [0u8; LINE];
     let place = text::bad_size(&mut out, 0);
-    print(&out[..place]);
+    files::print(&out[..place]);
 }
 
 // What reading the cues gave: a failure that has been told, or 0 and their number, or a refusal's number and its index.
@@ -330,7 +282,7 @@ fn list_cues(size: Size, lists: &mut [u8], room: &mut [u8]) -> Cues
     requires { ⌜ length (now room) ≡ cuesRead ⌝ }
     ensures { λ r. ⌜ CuesOf (size .racks) (size .lanes) (now (lists .entry)) (record { number = r .number; index = r .index; lists = now (lists .exit) }) ⌝ }
 {
-    let got = load(b"cues.rec", room);
+    let got = files::load(b"cues.rec", room);
     let n = got.count;
     let added = tell::tell_cues(size.racks, size.lanes, lists, &room[..n]);
     Cues {
@@ -371,14 +323,14 @@ fn print_listed(size: Size, lists: &mut [u8])
 fn print_all(size: Size)
     requires { ⌜ sizeFits size ≡ true ⌝ }
 {
-    let mut all = [0u8; 4096];
-    let n = 128 * (size.racks * size.lanes);
+    let mut all = [0u8; LISTS];
+    let n = LIST * (size.racks * size.lanes);
     print_listed(size, &mut all[..n]);
 }
 
 fn main() {
-    let mut given = [0u8; 5];
-    let got = load(b"size.rec", &mut given);
+    let mut given = [0u8; GIVEN];
+    let got = files::load(b"size.rec", &mut given);
     if got.failed {
         return;
     }

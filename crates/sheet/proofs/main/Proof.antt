@@ -3,7 +3,6 @@ use mathlib.Core.Path.{sym, _∙_}
 use native.Mathlib.Omega.{arith}
 use borrow.Author.Needs.{needs}
 use borrow.Author.Tests.{not-false}
-use Rattle.sheet.proofs.Parts.{part-length}
 use Rattle.sheet.proofs.Sizes.{given}
 use Rattle.sheet.proofs.main.Statement.{statement}
 use Rattle.sheet.proofs.main.Tie as tie
@@ -27,12 +26,12 @@ main-spec =
     (λ c κs. search needs)
     (λ c. search needs)
     (λ c. search needs)
-    (λ c. part-length _ _ (c .before .before .before .load .ensures))
+    (λ c. search needs)
     (λ c κs. search needs)
     (λ c κs. search needs)
     (λ c. search needs)
     (λ c. search needs)
-    (λ c. part-length _ _ (c .before .before .before .before .before .before .load .ensures))
+    (λ c. search needs)
     size-of-requires
     print-all-requires
     (λ c. search needs))

@@ -41,13 +41,13 @@ slice-aggregate-print c =
     let m = turns-moved _ _ _ _ _ _ _ (told .tell-turns .ensures) (p .played .steady) (omega (arith, p .few, few counted, counted .records-in .ensures)) in
     part-length _ _ (omega (arith, m .near, m .same, p .room, few counted, counted .records-in .ensures))
 
-add-t38 : tie.Need-add-t38
-add-t38 c =
+add-t37 : tie.Need-add-t37
+add-t37 c =
     let counted = c .before .before .before .before .before .before .before .before .before .before .before .before .before .before .before .before .before .before in
     omega (arith, few counted, counted .before .before .before .before .before .before .before .before .before .before .before .before .pre .few)
 
-add-t39 : tie.Need-add-t39
-add-t39 c =
+add-t38 : tie.Need-add-t38
+add-t38 c =
     let told = c .before .before .before .before .before .before .before .before .before .before .before .before .before .before in
     let counted = told .before .before .before .before .before .before in
     let p = counted .before .before .before .before .before .before .before .before .before .before .before .before .pre in
@@ -56,7 +56,7 @@ add-t39 c =
 
 returns-2 : tie.Need-returns-2
 returns-2 c =
-    let told = c .before .before .before .before .before .before .before .before .before .before .before .before .before .before in
+    let told = c .before .before .before .before .before .before .before .before .before .before .before .before .before .before .before in
     let counted = told .before .before .before .before .before .before in
     let p = counted .before .before .before .before .before .before .before .before .before .before .before .before .pre in
     let m = turns-moved _ _ _ _ _ _ _ (told .tell-turns .ensures) (p .played .steady) (omega (arith, p .few, few counted, counted .records-in .ensures)) in
@@ -70,7 +70,6 @@ play-some-spec =
     tie.close
     (tie.spec
     (λ c. search needs)
-    (λ c κs. search needs)
     (λ c. search needs)
     (λ c κs. search needs)
     (λ c. search needs)
@@ -83,8 +82,8 @@ play-some-spec =
     slice-reshare-prefix-print
     slice-aggregate-print
     (λ c κs. search needs)
+    add-t37
     add-t38
-    add-t39
     (λ c. search needs)
     (λ c. search needs)
     (λ c. search needs)
