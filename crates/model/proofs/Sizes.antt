@@ -21,7 +21,7 @@ pub record Sizes (most : ℕ) (s : Size) : Type 0 where
   pub rounds-low : 1 ≤ s .rounds
   pub rounds-high : s .rounds ≤ most
 
--- "a lent length not exact": each is
+-- "n, k or R outside its range, or a lent length not exact": neither, as named facts
 pub record Exact (s : Size) (t : Tables) : Type 0 where
   pub size : sizeUpTo (t .cells .form .most) s ≡ true
   pub cells : length (t .cells .bytes) ≡ lengthOf (t .cells) (cellRecords s)
@@ -48,7 +48,7 @@ module _ (s : Size) where
 
   -- the products of sizes are small
   pub rows-most : Sizes mostRounds s → s .rounds * s .lanes ≤ 256
-  rows-most z = product-le {a = s .rounds} {b = s .lanes} {x = 64} {y = 4} (z .rounds-high) (z .lanes-high)
+  rows-most z = product-le {a = s .rounds} {b = s .lanes} {x = mostRounds} {y = 4} (z .rounds-high) (z .lanes-high)
 
   pub records-most : Sizes mostRounds s → records s ≤ 2048
   records-most z = product-le {a = s .rounds * s .lanes} {b = s .racks} {x = 256} {y = 8} (rows-most z) (z .racks-high)

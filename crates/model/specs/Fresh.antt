@@ -60,7 +60,7 @@ freshRacks s = table 8 (λ rack. cond (ltb rack (s .racks)) (freshRack s rack) z
 unfoldable pub freshCard : Size → Card
 freshCard s = record { tables = freshTables s; racks = freshRacks s }
 
--- the call fills the lent tables and hands back the racks; refused, the tables stay and the racks are zeros
+-- the call fills the lent tables, which are of the form in use, and hands back the racks; refused, the tables stay and the racks are zeros
 unfoldable pub filled : Size → Tables → Outcome
 filled s t =
     cond (fits s t)

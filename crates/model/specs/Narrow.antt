@@ -7,6 +7,7 @@ use lib.Dec.{lit<, eqb}
 use lib.ListN.{getD}
 use Rattle.model.specs.declared.Cue.{Cue}
 use Rattle.model.specs.declared.Cell.{Cell}
+use Rattle.model.specs.Size.{mostRounds}
 use Rattle.model.specs.Record.{noCue, noCell}
 use Rattle.model.specs.Form.{Form}
 
@@ -23,6 +24,7 @@ cellBytes c =
     ∷ 0
     ∷ []
 
+-- the cell whose record these bytes begin with
 abbrev pub cellOf : List ℕ → Cell
 cellOf bytes =
     record {
@@ -54,7 +56,7 @@ cell-alike l m e =
 pub cell-spare-alike : (l m : List ℕ) → ((j : ℕ) → j < 8 → getD l j 0 ≡ getD m j 0) → cellSpare l ≡ cellSpare m
 cell-spare-alike l m e = λ t. eqb (e 6 (lit< tt) t) 0 && eqb (e 7 (lit< tt) t) 0
 
--- "8-byte records, no header"
+-- "8-byte records, no header"; "An empty cell is eight zeros."
 abbrev pub narrowCell : Form Cell noCell
 narrowCell =
     record {
@@ -62,7 +64,7 @@ narrowCell =
       bytes = cellBytes;
       read = cellOf;
       spare = cellSpare;
-      most = 64;
+      most = mostRounds;
       long = λ c. refl;
       read-alike = cell-alike;
       spare-alike = cell-spare-alike;
@@ -77,12 +79,14 @@ narrowCell =
 abbrev pub cueBytes : Cue → List ℕ
 cueBytes c = c .issuer ∷ c .number ∷ []
 
+-- the cue whose record these bytes begin with
 abbrev pub cueOf : List ℕ → Cue
 cueOf bytes = record { issuer = getD bytes 0 0; number = getD bytes 1 0 }
 
 pub cue-alike : (l m : List ℕ) → ((j : ℕ) → j < 2 → getD l j 0 ≡ getD m j 0) → cueOf l ≡ cueOf m
 cue-alike l m e = λ t. record { issuer = e 0 (lit< tt) t; number = e 1 (lit< tt) t }
 
+-- two bytes, and none of them spare
 abbrev pub narrowEntry : Form Cue noCue
 narrowEntry =
     record {
@@ -90,7 +94,7 @@ narrowEntry =
       bytes = cueBytes;
       read = cueOf;
       spare = λ bytes. true;
-      most = 64;
+      most = mostRounds;
       long = λ c. refl;
       read-alike = cue-alike;
       spare-alike = λ l m e. refl;

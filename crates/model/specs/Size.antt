@@ -18,7 +18,7 @@ mostRounds = 64
 abbrev pub sizeFits : Size → Bool
 sizeFits s = sizeUpTo mostRounds s
 
--- how many records a section of the cell table has, and how many the log table
+-- how many records a section of the cell table has
 abbrev pub records : Size → ℕ
 records s = s .rounds * s .lanes * s .racks
 

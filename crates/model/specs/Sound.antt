@@ -62,7 +62,7 @@ module _ (s : Size) where
   soundDecisions decisions =
       below (s .rounds * s .lanes) (λ i. eqb (getD decisions i 0) undecided || ltb (getD decisions i 0) (s .racks))
 
-  -- "used entries have issuer below n and number 1 to R + 1, unused ones are zero"
+  -- "used entries have issuer below n and number 1 to R + 1, unused ones are zero", "and spare bytes are zero" where a form has any
   unfoldable pub soundEntries : Logs → ℕ → ℕ → Bool
   soundEntries logs start length =
       below (s .rounds) (λ i.

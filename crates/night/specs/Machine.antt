@@ -61,9 +61,11 @@ module _ (M : Machine) (s : Size) where
   abbrev pub taken : ℕ → List (List ℕ) → ℕ
   taken rack turns = takenFrom (M .fresh s) rack turns
 
-  -- a log's bytes
+  -- a log's bytes, by the form that its table brings: `starts-fresh` and `turns-exact` leave none but the one in use
   unfoldable pub logBytes : Card → ℕ → ℕ → List ℕ
-  logBytes c rack lane = take (lengthOf (c .tables .logs) (M .length s c rack lane)) (drop (lengthOf (c .tables .logs) (logStart s rack lane)) (c .tables .logs .bytes))
+  logBytes c rack lane =
+      let logs = c .tables .logs in
+      take (lengthOf logs (M .length s c rack lane)) (drop (lengthOf logs (logStart s rack lane)) (logs .bytes))
 
   -- the entry at a place of a log
   abbrev pub entryOf : Card → ℕ → ℕ → ℕ → Cue

@@ -140,7 +140,8 @@ NightFresh =
 abbrev pub NightSound : Type 2
 NightSound =
     Equals night-sound.ended night-sound.Symbol.routine (λ κs r x. r)
-    (λ κs (n, (k, (rounds, (cells, (logs, (decisions, (racks, _))))))). soundness (sized n k rounds) (cardOf (now cells) (now logs) (now decisions) (racks .rack)))
+    (λ κs (n, (k, (rounds, (cells, (logs, (decisions, (racks, _))))))).
+    soundness (sized n k rounds) (cardOf (now cells) (now logs) (now decisions) (racks .rack)))
 
 abbrev pub NightTurn : Type 2
 NightTurn =

@@ -6,14 +6,14 @@ use Prim.Native.Nat.{ℕ, _+_, _*_, _≤_, _<_}
 use lib.ListN.{length}
 use Rattle.model.specs.declared.Size.{Size}
 use Rattle.model.specs.declared.Rack.{Rack}
-use Rattle.model.specs.Size.{sizeFits}
-use Rattle.model.specs.InUse.{logsOf, logsLength}
+use Rattle.model.specs.Size.{mostRounds, sizeFits}
+use Rattle.model.specs.InUse.{entryForm, logsOf, logsLength}
 use Rattle.model.specs.Settle.{tooLong}
 
 -- so many records from a log's start on lie within the table
 pub record Room (logs : List ℕ) (start most : ℕ) : Type 0 where
-  pub inside : 2 * (start + most) ≤ length logs
-  pub few : most ≤ 64
+  pub inside : entryForm .width * (start + most) ≤ length logs
+  pub few : most ≤ mostRounds
 
 -- a whole log table is lent, and the rack is there
 pub record Lent (s : Size) (logs : List ℕ) (rack : ℕ) : Type 0 where

@@ -17,6 +17,7 @@ use Rattle.model.specs.Table.{logStart, lengthFrom, logLength}
 use Rattle.model.specs.Settle.{Log, logOf}
 use Rattle.model.specs.Sound.{soundCue, soundEntries, soundLog, soundLogs}
 use Rattle.model.proofs.Same.{cue-same, same-cue}
+use Rattle.model.proofs.Length.{length-most}
 use Rattle.steady.proofs.Tests.{cond-then, cond-else, both-cond}
 
 pub record LogSound (s : Size) (log : Log) : Type 0 where
@@ -24,14 +25,6 @@ pub record LogSound (s : Size) (log : Log) : Type 0 where
   pub used : (i : ℕ) → i < log .length → soundCue s (entryAt (log .table) (log .start + i)) ≡ true
   pub rest : (i : ℕ) → log .length ≤ i → i < s .rounds → entryAt (log .table) (log .start + i) ≡ noCue
   pub clean : (i : ℕ) → i < s .rounds → spareAt (log .table) (log .start + i) ≡ true
-
--- a length is at most the number of records
-pub length-short : (table : Logs) (i most : ℕ) → lengthFrom table i most ≤ most
-unfolding lengthFrom
-length-short table i zero = omega arith
-length-short table i (suc most) =
-    let h = length-short table (suc i) most in
-    either (bool (sameCue (entryAt table i) noCue)) (λ e. rw e (omega arith)) (λ e. rw e (omega arith))
 
 -- so many records that are not zero and then, if there is one more, a zero one
 length-counts : (table : Logs) (most i n : ℕ) → n ≤ most
@@ -86,7 +79,7 @@ module _ (s : Size) where
         let both : (i : ℕ) → i < s .rounds → (test i ≡ true) × (spare i ≡ true) =
         λ i h. and-true (test i) (spare i) (below-at (s .rounds) (λ i. test i && spare i) e i h)
         in
-        let short = length-short logs (logStart s rack lane) (s .rounds) in
+        let short = length-most logs (logStart s rack lane) (s .rounds) in
         record {
           short = short;
           used = λ i h. cond-then (ltb i n) (soundCue s (entry i)) (sameCue (entry i) noCue) (both i (omega arith) .0) (lt-ltb i n h);

@@ -6,11 +6,11 @@ use Prim.Native.Nat.{ℕ, zero, suc, _+_, _*_, _≤_, _<_}
 use lib.ListN.{length}
 use Rattle.model.specs.declared.Size.{Size}
 use Rattle.model.specs.Size.{sizeFits}
-use Rattle.model.specs.InUse.{logsLength, logsOf}
+use Rattle.model.specs.InUse.{entryForm, logsLength, logsOf}
 use Rattle.model.specs.Record.{entryAt, Logs}
 use Rattle.model.specs.Table.{logStart, logLength}
 use Rattle.model.specs.Sound.{soundLogs}
-use Rattle.model.specs.Cues.{listsFit, listStart, codeIn}
+use Rattle.model.specs.Cues.{listMost, listsFit, listStart, codeIn}
 use Rattle.model.specs.Sheet.{logLine, entryLine}
 
 -- the line of the entry at a place behind a log's start
@@ -33,8 +33,8 @@ logText s lists logs rack lane finished =
 
 -- what writing the first entries requires: they are there, their cues' lists are there, and there is room for a line of each
 pub record EntriesReady (k : ℕ) (logs lists : List ℕ) (start lane count at : ℕ) (out : List ℕ) : Type 0 where
-  pub inside : 2 * (start + count) ≤ length logs
-  pub listed : (i : ℕ) → i < count → 2 * (listStart k (entryAt (logsOf logs) (start + i) .issuer) lane + 64) ≤ length lists
+  pub inside : entryForm .width * (start + count) ≤ length logs
+  pub listed : (i : ℕ) → i < count → 2 * (listStart k (entryAt (logsOf logs) (start + i) .issuer) lane + listMost) ≤ length lists
   pub room : at + 128 * count ≤ length out
 
 -- what writing a log requires: the tests of sizes, lengths and soundness, a log that is there, and room for 65 lines

@@ -22,7 +22,7 @@ use Rattle.model.specs.Table.{Card, logStart, logLength}
 use Rattle.model.specs.Logs.{oneBegins}
 use Rattle.model.proofs.Record.{Neat, neat-store}
 use Rattle.model.proofs.Table.{entry-fits}
-use Rattle.steady.proofs.Logs.{length-short}
+use Rattle.model.proofs.Length.{length-most}
 use Rattle.steady.proofs.Fresh.{empty-neat}
 use Rattle.steady.proofs.Stores.{turn-keeps}
 use Rattle.protocol.specs.Log.{Log, size, _⊑_, same, more}
@@ -70,7 +70,7 @@ module _ (s : Size) (c : Card) (tidy : Neat (logRecords s) (c .tables .logs)) wh
         → getD (logBytes card s c rack lane) i 0 ≡ getD (logs .form .bytes (entryAt logs (logStart s rack lane + place))) j 0
     unfolding logBytes
     byte-at i h place j e g f =
-        let most = length-short logs (logStart s rack lane) (s .rounds) in
+        let most = length-most logs (logStart s rack lane) (s .rounds) in
         let start = logStart s rack lane in
         let at : w * start + i ≡ w * (start + place) + j = let d = mul-add w start place in omega arith in
         getD-take (w * logLength s logs rack lane) (drop (w * start) (logs .bytes)) i 0 h
