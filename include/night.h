@@ -23,7 +23,7 @@
  *     9   log query: rack, lane or place not there
  *     10  cue record: rack, lane or code out of range, a 65th cue, or a short record
  *
- * They are tested in this order. The archive needs memcpy and memset of whoever links it, and nothing else.
+ * They are tested in this order. The archive needs no more than memcpy, memmove, memset and memcmp of whoever links it.
  */
 #ifndef NIGHT_H
 #define NIGHT_H
