@@ -1,1 +1,2 @@
 // Definitions and laws that know nothing of racks. No code.
+#![tactic(auto)]

@@ -1,5 +1,7 @@
 // The card's types, all by value. What is done with them is defined in specs/, in the words of document 01. The one method settles a lane, since a
 // method stands beside its type; so the logs that it appends to stand here too.
+#![tactic(auto)]
+
 ghost use Rattle.std.specs.Prelude.{◌≡◌};
 ghost use Rattle.model.specs.InUse.{logs_of};
 ghost use Rattle.model.specs.Settle.{PartLent, settle_part};
@@ -7,7 +9,7 @@ ghost use Rattle.model.specs.Settle.{PartLent, settle_part};
 pub mod logs; // logs.rt: logs in a lent table
 
 // n racks, k lanes, R rounds.
-#[derive(Drop)]
+#[derive(Clone, Copy)]
 pub struct Size {
     pub racks: usize,
     pub lanes: usize,
@@ -16,7 +18,7 @@ pub struct Size {
 
 // Cue 3 of rack 0, written 0#3, has issuer 0 and number 3.
 #[repr(C)]
-#[derive(Drop)]
+#[derive(Clone, Copy)]
 pub struct Cue {
     pub issuer: u8,
     pub number: u8,
@@ -24,7 +26,7 @@ pub struct Cue {
 
 // The five middle fields of a cell record.
 #[repr(C)]
-#[derive(Drop)]
+#[derive(Clone, Copy)]
 pub struct Value {
     pub place: u8,
     pub cue: Cue,
@@ -33,7 +35,7 @@ pub struct Value {
 
 // Mark 0 is empty, 1 an offer or a first cell, 2 adopted, 3 committed.
 #[repr(C)]
-#[derive(Drop)]
+#[derive(Clone, Copy)]
 pub struct Cell {
     pub mark: u8,
     pub value: Value,
@@ -41,7 +43,7 @@ pub struct Cell {
 
 // One rack's state: its clock, its first lane, the cells gathered in its present block and, one per lane, its held value, result and news.
 #[repr(C)]
-#[derive(Drop)]
+#[derive(Clone, Copy)]
 pub struct Rack {
     pub round: u8,
     pub step: u8,
@@ -95,7 +97,7 @@ impl Rack {
 }
 
 // The six kinds of steps.
-#[derive(Drop)]
+#[derive(Clone, Copy)]
 pub enum Kind {
     Offer,
     Answer,
@@ -106,28 +108,28 @@ pub enum Kind {
 }
 
 // What a call that works on the racks hands back: 0 or the refusal's number, and the eight racks.
-#[derive(Drop)]
+#[derive(Clone, Copy)]
 pub struct Reply {
     pub number: u8,
     pub racks: [Rack; 8],
 }
 
 // What a log query answers.
-#[derive(Drop)]
+#[derive(Clone, Copy)]
 pub enum Entry {
     Found(Cue),
     Refused(u8),
 }
 
 // What a query for a cue's code answers.
-#[derive(Drop)]
+#[derive(Clone, Copy)]
 pub enum Code {
     Of(u16),
     Refused(u8),
 }
 
 // A turn record's four bytes.
-#[derive(Drop)]
+#[derive(Clone, Copy)]
 pub struct Turn {
     pub rack: u8,
     pub lane: u8,
@@ -136,7 +138,7 @@ pub struct Turn {
 }
 
 // What stands at a place in the turn bytes: a whole record and the place behind it, a short last piece and its length, or nothing.
-#[derive(Drop)]
+#[derive(Clone, Copy)]
 pub enum Piece {
     Whole(Turn, usize),
     Short(usize),

@@ -1,1 +1,2 @@
 // Whole nights. No code: the theorems stand in proofs/.
+#![tactic(auto)]

@@ -7,7 +7,7 @@ use Prim.Native.Nat.{ℕ, ◌+◌, ◌*◌, ◌≤◌, ◌<◌}
 use native.Mathlib.Omega.{arith}
 use borrow.Author.Tests.{lt-ltb, le-ltb, le-leb}
 use lib.Dec.{ltb}
-use lib.ListN.{length, get_or, drop, replicate, length-replicate, get_or-replicate}
+use lib.ListN.{get_or, drop, replicate, length-replicate, get_or-replicate}
 use lib.Seq.{get_or-drop}
 use Rattle.laws.proofs.Cases.{either, bool, true_and}
 use Rattle.laws.proofs.Below.{all_below}
@@ -22,7 +22,7 @@ use Rattle.model.specs.InUse.{cell_form, entry_form, cells_of, logs_of}
 use Rattle.model.specs.Shape.{Shape}
 use Rattle.model.specs.Sound.{sound_cue, sound_value, sound_cell, sound_record, sound_section, sound_cells, sound_decisions, sound, unused_lane, unused_rack}
 use Rattle.model.specs.Turn.{fits}
-use Rattle.model.specs.Fresh.{table, own_first, fresh_rack, zero_rack, fresh_tables, fresh_racks, fresh_card}
+use Rattle.model.specs.Fresh.{own_first, fresh_rack, zero_rack, fresh_tables, fresh_racks, fresh_card}
 use Rattle.model.proofs.Same.{same_cue_is, same_value_is}
 use Rattle.model.proofs.Record.{Neat}
 use Rattle.model.proofs.Place.{block_long}

@@ -1,1 +1,2 @@
 // Theorems that every turn keeps a card sound. No code.
+#![tactic(auto)]

@@ -24,7 +24,7 @@ use Rattle.protocol.specs.Layer.{read}
 use Rattle.protocol.specs.Object.{Object, Move, read_second, step, taken, Done}
 use Rattle.protocol.specs.Edition.{outcome, first_value, second_value, result, news_of}
 use Rattle.protocol.specs.FirstEdition.{second_cell, news, first_edition}
-use Rattle.protocol.specs.History.{Rack, History, proposal}
+use Rattle.protocol.specs.History.{History, proposal}
 use Rattle.protocol.proofs.Put.{put_same}
 use Rattle.protocol.proofs.Lists.{length_snoc}
 use Rattle.protocol.proofs.Object.{Consistent}

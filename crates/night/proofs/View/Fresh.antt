@@ -11,7 +11,7 @@ use Rattle.model.specs.Size.{size_fits, decisions_length, block_steps, most_roun
 use Rattle.model.specs.InUse.{cells_length, logs_length, cell_form, entry_form, cells_of, logs_of}
 use Rattle.model.specs.Record.{no_cue, no_value, no_cell, cell_at, entry_at}
 use Rattle.model.specs.Table.{log_start, no_rack, undecided, decision_index, rack_at, held_at}
-use Rattle.model.specs.Fresh.{table, own_first, fresh_rack, fresh_racks, fresh_card}
+use Rattle.model.specs.Fresh.{own_first, fresh_rack, fresh_racks, fresh_card}
 use Rattle.model.proofs.Sizes.{Sizes, sizes}
 use Rattle.steady.proofs.Fresh.{empty_at, empty_spare}
 use Rattle.model.proofs.Table.{decision_fits}

@@ -41,7 +41,7 @@ use Rattle.protocol.proofs.Placed.{Clocked}
 use Rattle.night.specs.View.{marked_cell, RackView}
 use Rattle.night.proofs.View.Past.{ahead, not_yet, by_now}
 use Rattle.night.proofs.View.Standing.{Visiting}
-use Rattle.night.proofs.View.Moves.{r₀, c₀, old, moved, ends}
+use Rattle.night.proofs.View.Moves.{r₀, c₀, moved, ends}
 use Rattle.night.proofs.View.Within.{here_new, else_old}
 use Rattle.night.proofs.View.Tables.{TablesView, AfterView}
 use Rattle.night.proofs.View.RackChange.{racked, all_racks, rack_changed, tables_changed}
