@@ -1,4 +1,6 @@
 // What a rack makes of the cells that it has read: its second cell, its result and its news in a lane.
+#![tactic(auto)]
+
 ghost use Rattle.std.specs.Prelude.{◌≡◌, ◌≤◌};
 ghost use Rattle.model.specs.Block.{equals_own, all_equal_own, higher, greatest, second_cell};
 ghost use Rattle.model.specs.Block.{backs_own, all_back_own, sooner, first_committed, adopted_value, result_of};
@@ -8,7 +10,7 @@ use model::{Cell, Value};
 
 // A first cell that is empty or "equals it".
 fn equals_own(own: Value, c: Cell) -> bool
-    ensures* { λ r. ⌜ r ≡ equals_own own c ⌝ }
+    ensures { result ≡ equals_own own c }
 {
     let empty = c.mark == 0;
     let v = c.value;
@@ -19,7 +21,7 @@ fn equals_own(own: Value, c: Cell) -> bool
 // "every non-empty first cell read equals it"
 fn all_equal_own(firsts: [Cell; 8], own: Value, n: usize) -> bool
     requires { n ≤ 8 }
-    ensures* { λ r. ⌜ r ≡ all_equal_own firsts own n ⌝ }
+    ensures { result ≡ all_equal_own firsts own n }
 {
     let mut all = true;
     for i in 0..n {
@@ -32,7 +34,7 @@ fn all_equal_own(firsts: [Cell; 8], own: Value, n: usize) -> bool
 
 // What is kept of two: the cell's value if it has a greater place.
 fn higher(best: Value, c: Cell) -> Value
-    ensures* { λ v. ⌜ v ≡ higher best c ⌝ }
+    ensures { result ≡ higher best c }
 {
     let full = c.mark != 0;
     let more = best.place < c.value.place;
@@ -45,7 +47,7 @@ fn higher(best: Value, c: Cell) -> Value
 // "the value of greatest place read, its own if it ties, else the lowest rack's"
 fn greatest(firsts: [Cell; 8], own: Value, n: usize) -> Value
     requires { n ≤ 8 }
-    ensures* { λ v. ⌜ v ≡ greatest firsts own n ⌝ }
+    ensures { result ≡ greatest firsts own n }
 {
     let mut best = own;
     for i in 0..n {
@@ -58,7 +60,7 @@ fn greatest(firsts: [Cell; 8], own: Value, n: usize) -> Value
 // "committed with its own value if every non-empty first cell read equals it; else adopted, with the value of greatest place read"
 pub fn second_cell(firsts: [Cell; 8], own: Value, n: usize) -> Cell
     requires { n ≤ 8 }
-    ensures* { λ c. ⌜ c ≡ second_cell firsts own n ⌝ }
+    ensures { result ≡ second_cell firsts own n }
 {
     let all = all_equal_own(firsts, own, n);
     let best = greatest(firsts, own, n);
@@ -76,7 +78,7 @@ pub fn second_cell(firsts: [Cell; 8], own: Value, n: usize) -> Cell
 
 // A second cell that is empty, or "is marked committed and equals its own".
 fn backs_own(own: Value, c: Cell) -> bool
-    ensures* { λ r. ⌜ r ≡ backs_own own c ⌝ }
+    ensures { result ≡ backs_own own c }
 {
     let empty = c.mark == 0;
     let committed = c.mark == 3;
@@ -88,7 +90,7 @@ fn backs_own(own: Value, c: Cell) -> bool
 // "every non-empty second cell read is marked committed and equals its own"
 fn all_back_own(seconds: [Cell; 8], own: Value, n: usize) -> bool
     requires { n ≤ 8 }
-    ensures* { λ r. ⌜ r ≡ all_back_own seconds own n ⌝ }
+    ensures { result ≡ all_back_own seconds own n }
 {
     let mut all = true;
     for i in 0..n {
@@ -101,7 +103,7 @@ fn all_back_own(seconds: [Cell; 8], own: Value, n: usize) -> bool
 
 // What is kept of two: the cell if it is committed and none was found before.
 fn sooner(found: Cell, c: Cell) -> Cell
-    ensures* { λ r. ⌜ r ≡ sooner found c ⌝ }
+    ensures { result ≡ sooner found c }
 {
     let none = found.mark == 0;
     let committed = c.mark == 3;
@@ -114,7 +116,7 @@ fn sooner(found: Cell, c: Cell) -> Cell
 // "the first committed cell", empty if none was read.
 fn first_committed(seconds: [Cell; 8], n: usize) -> Cell
     requires { n ≤ 8 }
-    ensures* { λ c. ⌜ c ≡ first_committed seconds n ⌝ }
+    ensures { result ≡ first_committed seconds n }
 {
     let mut found = cells::no_cell();
     for i in 0..n {
@@ -127,7 +129,7 @@ fn first_committed(seconds: [Cell; 8], n: usize) -> Cell
 // "the first committed cell's value if one was read, else the value in its own second cell"
 fn adopted_value(seconds: [Cell; 8], second: Value, n: usize) -> Value
     requires { n ≤ 8 }
-    ensures* { λ v. ⌜ v ≡ adopted_value seconds second n ⌝ }
+    ensures { result ≡ adopted_value seconds second n }
 {
     let found = first_committed(seconds, n);
     if found.mark == 0 {
@@ -139,7 +141,7 @@ fn adopted_value(seconds: [Cell; 8], second: Value, n: usize) -> Value
 // "Committed: every non-empty second cell read is marked committed and equals its own. Otherwise adopted"
 pub fn result(seconds: [Cell; 8], own: Value, second: Value, n: usize) -> Cell
     requires { n ≤ 8 }
-    ensures* { λ c. ⌜ c ≡ result_of seconds own second n ⌝ }
+    ensures { result ≡ result_of seconds own second n }
 {
     let all = all_back_own(seconds, own, n);
     let adopted = adopted_value(seconds, second, n);
@@ -157,7 +159,7 @@ pub fn result(seconds: [Cell; 8], own: Value, second: Value, n: usize) -> Cell
 
 // What is kept of two: the cell if it is not empty and has a greater place, or is the first that is not.
 fn newer(best: Cell, c: Cell) -> Cell
-    ensures* { λ r. ⌜ r ≡ newer best c ⌝ }
+    ensures { result ≡ newer best c }
 {
     let full = c.mark != 0;
     let none = best.mark == 0;
@@ -171,7 +173,7 @@ fn newer(best: Cell, c: Cell) -> Cell
 // The newest of these cells and one read before them, "the earliest on a tie".
 fn newest(cells: [Cell; 8], before: Cell, n: usize) -> Cell
     requires { n ≤ 8 }
-    ensures* { λ c. ⌜ c ≡ newest cells before n ⌝ }
+    ensures { result ≡ newest cells before n }
 {
     let mut best = before;
     for i in 0..n {
@@ -184,7 +186,7 @@ fn newest(cells: [Cell; 8], before: Cell, n: usize) -> Cell
 // "the value of greatest place among all non-empty cells read, first cells before second, the earliest on a tie"
 pub fn news(firsts: [Cell; 8], seconds: [Cell; 8], n: usize) -> Value
     requires { n ≤ 8 }
-    ensures* { λ v. ⌜ v ≡ news firsts seconds n ⌝ }
+    ensures { result ≡ news firsts seconds n }
 {
     let none = cells::no_cell();
     let first = newest(firsts, none, n);

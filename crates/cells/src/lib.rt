@@ -1,4 +1,6 @@
 // Cell records: one read, one written, two compared; and the cells of one round, lent on for writing.
+#![tactic(auto)]
+
 ghost use Rattle.std.specs.Prelude.{◌≡◌, ◌+◌, ◌*◌, ◌≤◌, ◌<◌, length};
 ghost use Rattle.model.specs.Record.{no_value, no_cell, same_cue, same_value, same_cell, cell_at};
 ghost use Rattle.model.specs.Form.{stored};

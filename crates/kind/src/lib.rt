@@ -1,4 +1,6 @@
 // Which of the six kinds a step is, and where a step stands in its round.
+#![tactic(auto)]
+
 ghost use Rattle.std.specs.Prelude.{◌≡◌, ◌-◌, ◌≤◌, ◌<◌, min};
 ghost use Rattle.model.specs.Size.{block_steps, round_steps};
 ghost use Rattle.model.specs.Kind.{kind_of, block_at, place_at, lane_of, lane_at, block_of, steps_in, firsts_read, seconds_read};

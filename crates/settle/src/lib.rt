@@ -1,4 +1,6 @@
 // "The round's last step also settles every lane. L is the log length as it then stands".
+#![tactic(auto)]
+
 ghost use Rattle.std.specs.Prelude.{◌≡◌, true, ◌+◌, ◌*◌, ◌≤◌, ◌<◌, length};
 ghost use Rattle.model.specs.InUse.{logs_of};
 ghost use Rattle.model.specs.Settle.{settled_log, settle_lanes, too_long};
@@ -10,7 +12,7 @@ use model::{Cell, Rack, Size, Value, logs};
 // "settles every lane", one after the other: each lane's own part of the log table is lent on.
 pub fn settle_lanes(logs: &mut [u8], size: Size, rack: usize, r: Rack) -> Rack
     requires { LanesLent size logs.old rack r }
-    ensures { record { logs = logs_of logs.exit.now; rack = result } ≡ settle_lanes size rack (logs_of logs.entry.now) r size.lanes }
+    ensures { record { logs = logs_of logs.new; rack = result } ≡ settle_lanes size rack (logs_of logs.old) r size.lanes }
 {
     let k = size.lanes;
     let mut q = r;

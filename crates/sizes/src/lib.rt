@@ -1,4 +1,6 @@
 // Test 1: sizes in range and lent lengths exact.
+#![tactic(auto)]
+
 ghost use Rattle.std.specs.Prelude.{◌≡◌, true};
 ghost use Rattle.model.specs.Size.{size_fits, records};
 ghost use Rattle.sizes.specs.Lengths.{lengths_fit, logs_fit};
