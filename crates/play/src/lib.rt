@@ -1,4 +1,6 @@
 // The inner turn: a turn on tables that are known to be sound.
+#![tactic(auto)]
+
 ghost use Rattle.std.specs.Prelude.{◌≡◌, false};
 ghost use Rattle.model.specs.InUse.{tables_of, card_of, after_of, outcome};
 ghost use Rattle.model.specs.Turn.{bad_record, rack_of, turned};
@@ -32,7 +34,7 @@ pub fn rack_named(size: Size, turn: &[u8]) -> usize
 }
 
 // What a turn gives its rack: 0 or the refusal's number, and the rack afterwards.
-#[derive(Drop)]
+#[derive(Clone, Copy)]
 pub struct Played {
     pub number: u8,
     pub rack: Rack,

@@ -1,4 +1,6 @@
 // Refusals 4 to 8 of a turn, tested in this order.
+#![tactic(auto)]
+
 ghost use Rattle.std.specs.Prelude.{◌≡◌, length};
 ghost use Rattle.model.specs.Size.{decisions_length};
 ghost use Rattle.model.specs.InUse.{cells_length, tables_of, cells_of, logs_of};

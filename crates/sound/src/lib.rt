@@ -1,4 +1,6 @@
 // "Sound, with no look at history": the second test of every public call. Each function's result is the definition of its name in model's specs.
+#![tactic(auto)]
+
 ghost use Rattle.std.specs.Prelude.{◌≡◌, true, length};
 ghost use Rattle.model.specs.Size.{size_fits};
 ghost use Rattle.model.specs.InUse.{logs_length, tables_of, card_of, logs_of};

@@ -5,7 +5,9 @@ ghost use Rattle.model.specs.Size.{size_fits, decisions_length};
 ghost use Rattle.model.specs.InUse.{logs_length, tables_of, card_of, cells_of, logs_of};
 ghost use Rattle.model.specs.Record.{no_cell, is_empty, same_cell};
 ghost use Rattle.model.specs.Table.{read_cell, second_cells};
-ghost use Rattle.model.specs.Sound.{unused_lane, unused_rack, sound_value, sound_cell, sound_decisions, sound_clock, sound_first, sound_gathered, sound_choice, sound_read_back, sound_written, sound_outcome, sound_held, sound_lane, sound_rack, sound_state, sound_racks};
+ghost use Rattle.model.specs.Sound.{unused_lane, unused_rack, sound_value, sound_cell, sound_decisions, sound_clock, sound_first};
+ghost use Rattle.model.specs.Sound.{sound_gathered, sound_choice, sound_read_back, sound_written, sound_outcome, sound_held};
+ghost use Rattle.model.specs.Sound.{sound_lane, sound_rack, sound_state, sound_racks};
 ghost use Rattle.cells.specs.Here.{Here};
 ghost use Rattle.model.proofs.Sizes.{Exact};
 ghost use Rattle.sound.specs.Clocked.{Clocked};
@@ -54,7 +56,8 @@ fn sound_gathered_cell(size: Size, section: usize, read: bool, c: Cell) -> bool
 // The eight cells gathered of one section, of which the first `read` are read.
 fn sound_gathered_cells(size: Size, section: usize, read: usize, gathered: [Cell; 8]) -> bool
     requires { size_fits size ≡ true }
-    ensures { result ≡ below 8 (λ i. cond (ltb i read) (sound_cell size section (get_or gathered i no_cell)) (same_cell (get_or gathered i no_cell) no_cell)) }
+    ensures { result ≡ below 8 (λ i. cond (ltb i read)
+        (sound_cell size section (get_or gathered i no_cell)) (same_cell (get_or gathered i no_cell) no_cell)) }
 {
     let mut fine = true;
     for i in 0..8 {

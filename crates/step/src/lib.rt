@@ -1,4 +1,6 @@
 // What a step of each of the six kinds does to the tables and to the rack, and the one dispatch over them.
+#![tactic(auto)]
+
 ghost use Rattle.std.specs.Prelude.{◌≡◌, ◌<◌};
 ghost use Rattle.model.specs.InUse.{tables_of, cells_of, logs_of, after_of};
 ghost use Rattle.model.specs.declared.Kind.TheVariants.{FirstRead, SecondRead};
@@ -42,7 +44,7 @@ pub fn decision_at(decisions: &[u8], size: Size, r: Rack, lane: usize) -> u8
 // "Step 0, offer: all k held values go into the rack's offer cells of this round."
 fn offer(cells: &mut [u8], size: Size, rack: usize, r: Rack) -> Rack
     requires { AtCells size cells.old rack r }
-    ensures { record { cells = cells_of cells.exit.now; rack = result } ≡ offering size (cells_of cells.entry.now) rack r }
+    ensures { record { cells = cells_of cells.new; rack = result } ≡ offering size (cells_of cells.old) rack r }
 {
     cells::write_offers(cells, size, rack, r);
     advanced(r)
@@ -51,7 +53,7 @@ fn offer(cells: &mut [u8], size: Size, rack: usize, r: Rack) -> Rack
 // "Decision (round, m) becomes q; m is the first lane."
 fn answer(decisions: &mut [u8], size: Size, r: Rack, lane: u8, source: u8) -> Rack
     requires { AtDecisions size decisions.old r lane }
-    ensures { record { decisions = decisions.exit.now; rack = result } ≡ answering size decisions.entry.now r lane source }
+    ensures { record { decisions = decisions.new; rack = result } ≡ answering size decisions.old r lane source }
 {
     let i = decision_index(size, r, lane as usize);
     decisions[i] = source;
@@ -78,8 +80,8 @@ fn proposal(cells: &[u8], decisions: &[u8], size: Size, rack: usize, r: Rack) ->
 // "write its first cell, which is its own value below"
 fn first_write(cells: &mut [u8], decisions: &[u8], size: Size, rack: usize, r: Rack) -> Rack
     requires { Decided size cells.old decisions.now rack r }
-    ensures { record { cells = cells_of cells.exit.now; rack = result }
-        ≡ first_writing size (cells_of cells.entry.now) rack r decisions.now }
+    ensures { record { cells = cells_of cells.new; rack = result }
+        ≡ first_writing size (cells_of cells.old) rack r decisions.now }
 {
     let own = proposal(cells, decisions, size, rack, r);
     let lane = kind::lane_at(size, r);
@@ -107,7 +109,7 @@ fn first_read(cells: &[u8], size: Size, rack: usize, r: Rack) -> Rack
 // "write its second cell": from the first cells read and its own value.
 fn second_write(cells: &mut [u8], size: Size, rack: usize, r: Rack) -> Rack
     requires { InBlock size cells.old rack r }
-    ensures { record { cells = cells_of cells.exit.now; rack = result } ≡ second_writing size (cells_of cells.entry.now) rack r }
+    ensures { record { cells = cells_of cells.new; rack = result } ≡ second_writing size (cells_of cells.old) rack r }
 {
     let lane = kind::lane_at(size, r);
     let first = cells::read(cells, size, 1, r.round as usize, lane, rack);
@@ -189,8 +191,8 @@ fn round_ended(r: Rack) -> Rack
 // The read of a second cell: "The round's last step also settles every lane."
 fn second_read(cells: &[u8], logs: &mut [u8], size: Size, rack: usize, r: Rack) -> Rack
     requires { Settling size cells.now logs.old rack r }
-    ensures { record { logs = logs_of logs.exit.now; rack = result }
-        ≡ second_reading size (cells_of cells.now) rack r (logs_of logs.entry.now) }
+    ensures { record { logs = logs_of logs.new; rack = result }
+        ≡ second_reading size (cells_of cells.now) rack r (logs_of logs.old) }
 {
     let read = after_second_read(cells, size, rack, r);
     let last = kind::is_last(size, r);

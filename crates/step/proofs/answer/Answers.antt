@@ -1,0 +1,13 @@
+-- The byte written is the decision of the rack's round and the lane.
+use native.Mathlib.Omega.{arith}
+use Rattle.step.proofs.Places.{step_small, decision_there}
+use Rattle.step.proofs.answer.Goals as goal
+
+pub bounds-decisions-i : goal.bounds-decisions-i
+bounds-decisions-i c = decision_there c.requires _ c.decision_index-i.ensures
+
+pub advanced-q-requires : goal.advanced-q-requires
+advanced-q-requires c = omega (arith, step_small c.requires.round)
+
+pub returns : goal.returns
+returns c = rw (c.advanced-q.ensures, c.decision_index-i.ensures)

@@ -1,0 +1,33 @@
+-- The test on the way is the definition's own; the round still is the rack's when it ends, so it rises without wrapping.
+use mathlib.Core.Path.{sym, ◌∙◌}
+use native.Mathlib.Omega.{arith}
+use Rattle.step.specs.After.{second_reading}
+use Rattle.step.proofs.Places.{racks_few, lanes_few}
+use Rattle.step.proofs.Arms.{ended_round}
+use Rattle.step.proofs.second_read.Goals as goal
+
+pub is_last-last-requires : goal.is_last-last-requires
+is_last-last-requires c =
+    let a = c.requires.block.at.round in
+    (racks_few a, lanes_few a)
+
+pub returns-then-not-last : goal.returns-then-not-last
+unfolding second_reading
+returns-then-not-last c = rw (c.after_second_read-read.ensures, sym c.is_last-last.ensures ∙ c.if-not-last.true)
+
+pub settle_lanes-settled-requires : goal.settle_lanes-settled-requires
+settle_lanes-settled-requires c =
+    let p = c.requires in
+    record {
+      lent = record { sizes = p.block.at.round.size; exact = p.exact; rack_there = p.block.at.rack_there };
+      room =
+          rw c.after_second_read-read.ensures
+          (p.room (sym c.is_last-last.ensures ∙ c.if-not-last.false));
+    }
+
+pub round_ended-requires : goal.round_ended-requires
+round_ended-requires c = omega (arith, ended_round _ _ _ _ _ _ c.requires.block.at.round c.after_second_read-read.ensures c.settle_lanes-settled.ensures)
+
+pub returns : goal.returns
+unfolding second_reading
+returns c = rw (c.round_ended.ensures, sym c.is_last-last.ensures ∙ c.if-not-last.false, ← c.after_second_read-read.ensures, ← c.settle_lanes-settled.ensures)
