@@ -1,4 +1,6 @@
 // The card's public calls on all its tables: the soundness test and the turn.
+#![tactic(auto)]
+
 ghost use Rattle.std.specs.Prelude.{◌≡◌};
 ghost use Rattle.model.specs.InUse.{card_of, outcome};
 ghost use Rattle.model.specs.Turn.{turned, soundness};

@@ -1,4 +1,6 @@
 // Two logs given as bytes.
+#![tactic(auto)]
+
 ghost use Rattle.std.specs.Prelude.{◌≡◌};
 ghost use Rattle.model.specs.Logs.{one_begins, agree, longer};
 ghost use Rattle.compare.specs.Itself.{longer_itself};
@@ -32,7 +34,7 @@ pub fn agree(a: &[u8], b: &[u8]) -> bool
 
 // "A second call hands back the longer log itself, the first if equal, and an empty part of the first if they don't agree."
 pub fn longer<'a>(a: &'a [u8], b: &'a [u8]) -> &'a [u8]
-    ensures { (result.now ≡ longer a.now b.now) × (result ≡ longer_itself a.entry b.entry result.name) }
+    ensures { (result.now ≡ longer a.now b.now) × (result ≡ longer_itself a.entry b.entry) }
 {
     let agreeing = agree(a, b);
     if agreeing {

@@ -1,4 +1,6 @@
 // Cue lists in a lent table: 2-byte records of a code, low byte first, 64 for each rack and lane.
+#![tactic(auto)]
+
 ghost use Rattle.std.specs.Prelude.{◌≡◌, [], ◌∷◌, ◌+◌, ◌*◌, ◌≤◌, ◌<◌, ◌^◌, length};
 ghost use Rattle.std.proofs.lemmas.List.Edits.{sets};
 ghost use Rattle.model.specs.Cues.{lists_fit, list_start, code_at, code_in, code_number, code_value, coded, code_of, add_cue};

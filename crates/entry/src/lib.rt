@@ -1,4 +1,6 @@
 // The log query.
+#![tactic(auto)]
+
 ghost use Rattle.std.specs.Prelude.{◌≡◌, true, ◌<◌, length};
 ghost use Rattle.model.specs.Size.{size_fits};
 ghost use Rattle.model.specs.InUse.{logs_length, logs_of};

@@ -1,4 +1,6 @@
 // The public call that fills lent tables afresh and hands back the racks.
+#![tactic(auto)]
+
 ghost use Rattle.std.specs.Prelude.{◌≡◌, ◌<◌, length, replicate, ltb, cond};
 ghost use Rattle.model.specs.InUse.{tables_of, outcome};
 ghost use Rattle.model.specs.Record.{no_value};

@@ -1,4 +1,6 @@
 // The reader of turn records: a struct with the turn bytes and its own place in them, and few thin functions over `piece_at`.
+#![tactic(auto)]
+
 ghost use Rattle.std.specs.Prelude.{◌≡◌};
 ghost use Rattle.model.specs.Night.{piece_at};
 ghost use Rattle.turns.specs.Walk.{place_behind};
@@ -6,7 +8,7 @@ ghost use Rattle.turns.specs.Walk.{place_behind};
 use model::{Piece, Turn};
 
 // "A reader walks the bytes with its own place in them": the turn bytes and an index.
-#[derive(Drop)]
+#[derive(Clone, Copy)]
 pub struct Turns<'a> {
     pub bytes: &'a [u8],
     pub at: usize,
@@ -79,7 +81,7 @@ pub fn behind<'a>(turns: Turns<'a>) -> Turns<'a>
     }
 }
 
-// What a reader gives first. Its caller needs no proof by hand.
+// What a reader gives first.
 pub fn first(bytes: &[u8]) -> Piece
     ensures { result ≡ piece_at bytes.now 0 }
 {
