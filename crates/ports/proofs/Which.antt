@@ -21,10 +21,9 @@ which_longer_is a b =
     (λ f. rw f)
 
 -- the log itself
-pub which_itself : (a b : Bor (List ℕ)) (own : ℕ)
-    → longer_itself a b own ≡ named (which_longer a.now b.now) a b (empty_part a own)
+pub which_itself : (a b : Bor (List ℕ)) → longer_itself a b ≡ named (which_longer a.now b.now) a b (empty_part a)
 unfolding longer_itself which_longer
-which_itself a b own =
+which_itself a b =
     either (bool (agree a.now b.now))
     (λ t. either (bool (ltb (length a.now) (length b.now))) (λ l. rw (t, l)) (λ l. rw (t, l)))
     (λ f. rw f)

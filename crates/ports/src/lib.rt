@@ -1,5 +1,7 @@
-// What a firmware links: the public calls under C names. Sizes are whole numbers, so that every one can be handed over and is judged by the
-// call below; the eight racks cross in a struct, since an exported function takes no bare array.
+// What a firmware links, for Rattle: the public calls under their C names; `ports_c` exports each of them. Sizes are whole numbers, so that every
+// one can be handed over and is judged by the call below; the eight racks cross in a struct, since an exported function takes no bare array.
+#![tactic(auto)]
+
 ghost use Rattle.std.specs.Prelude.{◌≡◌};
 ghost use Rattle.model.specs.InUse.{logs_of, tables_of, card_of, outcome};
 ghost use Rattle.model.specs.Turn.{turned, soundness};
@@ -12,14 +14,14 @@ use model::{Code, Entry, Rack, Size};
 
 // "The rack states are one fixed array of eight"
 #[repr(C)]
-#[derive(Drop)]
+#[derive(Clone, Copy)]
 pub struct Racks {
     pub rack: [Rack; 8],
 }
 
 // What a call that works on the racks hands back: 0 or the refusal's number, and the eight racks.
 #[repr(C)]
-#[derive(Drop)]
+#[derive(Clone, Copy)]
 pub struct Answer {
     pub number: u8,
     pub racks: Racks,
@@ -27,7 +29,7 @@ pub struct Answer {
 
 // What a log query answers: 0, the issuer and the cue's number; or the refusal's number and zeros.
 #[repr(C)]
-#[derive(Drop)]
+#[derive(Clone, Copy)]
 pub struct EntryAnswer {
     pub number: u8,
     pub issuer: u8,
@@ -36,7 +38,7 @@ pub struct EntryAnswer {
 
 // Which log is the longer: 0 the first, 1 the second, 2 if they do not agree; and the length in bytes of what `longer` hands back.
 #[repr(C)]
-#[derive(Drop)]
+#[derive(Clone, Copy)]
 pub struct LongerAnswer {
     pub which: u8,
     pub length: usize,
@@ -44,15 +46,14 @@ pub struct LongerAnswer {
 
 // What a query for a cue's code answers: 0 and the code; or the refusal's number and 0.
 #[repr(C)]
-#[derive(Drop)]
+#[derive(Clone, Copy)]
 pub struct CodeAnswer {
     pub number: u8,
     pub code: u16,
 }
 
 // Fills the three tables and hands back the racks, over `fresh::fresh`.
-#[unsafe(no_mangle)]
-pub extern "C" fn night_fresh(
+pub fn night_fresh(
     n: usize,
     k: usize,
     rounds: usize,
@@ -77,8 +78,7 @@ pub extern "C" fn night_fresh(
 }
 
 // The soundness test, over `card::sound`: 0, 1 or 2.
-#[unsafe(no_mangle)]
-pub extern "C" fn night_sound(
+pub fn night_sound(
     n: usize,
     k: usize,
     rounds: usize,
@@ -100,8 +100,7 @@ pub extern "C" fn night_sound(
 }
 
 // One turn, over `card::turn`.
-#[unsafe(no_mangle)]
-pub extern "C" fn night_turn(
+pub fn night_turn(
     n: usize,
     k: usize,
     rounds: usize,
@@ -130,8 +129,7 @@ pub extern "C" fn night_turn(
 }
 
 // The log query, over `entry::log_entry`.
-#[unsafe(no_mangle)]
-pub extern "C" fn night_log_entry(
+pub fn night_log_entry(
     n: usize,
     k: usize,
     rounds: usize,
@@ -163,8 +161,7 @@ pub extern "C" fn night_log_entry(
 }
 
 // Whether two logs agree, over `compare::agree`: 1 or 0.
-#[unsafe(no_mangle)]
-pub extern "C" fn night_agree(a: &[u8], b: &[u8]) -> u8
+pub fn night_agree(a: &[u8], b: &[u8]) -> u8
     ensures { result ≡ agree_told (agree a.now b.now) }
 {
     if compare::agree(a, b) {
@@ -174,8 +171,7 @@ pub extern "C" fn night_agree(a: &[u8], b: &[u8]) -> u8
 }
 
 // Which of two logs `compare::longer` hands back, and its length.
-#[unsafe(no_mangle)]
-pub extern "C" fn night_longer<'a>(a: &'a [u8], b: &'a [u8]) -> LongerAnswer
+pub fn night_longer<'a>(a: &'a [u8], b: &'a [u8]) -> LongerAnswer
     ensures { result ≡ longer_told a.now b.now }
 {
     let agreeing = compare::agree(a, b);
@@ -193,16 +189,14 @@ pub extern "C" fn night_longer<'a>(a: &'a [u8], b: &'a [u8]) -> LongerAnswer
 }
 
 // A cue record added to the lists, over `cues::add_cue`: 0 or the refusal's number.
-#[unsafe(no_mangle)]
-pub extern "C" fn night_add_cue(n: usize, k: usize, lists: &mut [u8], cue: &[u8]) -> u8
+pub fn night_add_cue(n: usize, k: usize, lists: &mut [u8], cue: &[u8]) -> u8
     ensures { record { number = result; lists = lists.new } ≡ add_cue n k lists.old cue.now }
 {
     cues::add_cue(n, k, lists, cue)
 }
 
 // The code of a rack's and lane's cue, over `cues::code_of`.
-#[unsafe(no_mangle)]
-pub extern "C" fn night_code_of(
+pub fn night_code_of(
     n: usize,
     k: usize,
     lists: &[u8],

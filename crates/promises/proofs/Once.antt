@@ -3,11 +3,8 @@
 use mathlib.Core.Path.{◌≡◌, sym, ap, ◌∙◌}
 use mathlib.Core.List.{List}
 use Prim.Native.Nat.{ℕ}
-use prog.Routine.{Routine}
-use denote.Ref.{Bor, MutBor}
+use denote.Ref.{Bor}
 use denote.Triple.Clauses.{Ended}
-use Rattle.laws.proofs.Cases.{either, bool}
-use Rattle.model.specs.Logs.{agree}
 use Rattle.compare.specs.Itself.{longer_itself}
 use Rattle.turns.specs.declared.Turns.{Turns}
 use Rattle.fresh.proofs.fresh.Met as fresh
@@ -24,7 +21,7 @@ use Rattle.turns.proofs.moved.Met as moved
 use Rattle.turns.proofs.behind.Met as behind
 use Rattle.turns.proofs.first.Met as first
 use Rattle.cues.proofs.add_cue.Met as add_cue
-use Rattle.cues.proofs.code_of.Met as code_of_lem
+use Rattle.cues.proofs.code_of.Met as code_of
 use Rattle.ports.proofs.night_fresh.Met as night_fresh
 use Rattle.ports.proofs.night_sound.Met as night_sound
 use Rattle.ports.proofs.night_turn.Met as night_turn
@@ -33,11 +30,11 @@ use Rattle.ports.proofs.night_agree.Met as night_agree
 use Rattle.ports.proofs.night_longer.Met as night_longer
 use Rattle.ports.proofs.night_add_cue.Met as night_add_cue
 use Rattle.ports.proofs.night_code_of.Met as night_code_of
-use Rattle.promises.specs.Promise.{Keeps, Seen, Given, Equals}
+use Rattle.promises.specs.Promise.{Call, Keeps, Seen, Given, Equals}
 use Rattle.promises.specs.Calls as calls
 
 -- the law, for a promise that is an equation
-equals : {T : Ended} {call : Routine} {O : Type 0} {seen : Seen T O} {given : Given T O}
+equals : {T : Ended} {call : Call} {O : Type 0} {seen : Seen T O} {given : Given T O}
     → Keeps T call (λ κs a r x. seen κs r x ≡ given κs a) → Equals T call seen given
 equals met = record { keeps = met; once = λ κs a r r' x x' p q. p ∙ sym q }
 
@@ -57,14 +54,9 @@ log_entry_once = record { keeps = λ M. log_entry.met; once = λ κs a r r' x x'
 pub agree_once : calls.Agree
 agree_once = equals (λ M. compare_agree.met)
 
--- the log itself: where it begins, whatever name the logic gives a part
-same_part : (a b : Bor (List ℕ)) (x y : ℕ) → (longer_itself a b x).ptr ≡ (longer_itself a b y).ptr
-unfolding longer_itself
-same_part a b x y = either (bool (agree a.now b.now)) (λ t. rw t) (λ f. rw f)
-
-itself_once : (a b o o' : MutBor (List ℕ)) → o ≡ longer_itself a b o.ghost_name → o' ≡ longer_itself a b o'.ghost_name → o.ref_ptr ≡ o'.ref_ptr
-itself_once a b o o' p q =
-    ap (λ (r : MutBor (List ℕ)). r.ref_ptr) p ∙ same_part a b o.ghost_name o'.ghost_name ∙ sym (ap (λ (r : MutBor (List ℕ)). r.ref_ptr) q)
+-- the log itself: where it begins
+itself_once : (a b r r' : Bor (List ℕ)) → r ≡ longer_itself a b → r' ≡ longer_itself a b → r.ref_ptr ≡ r'.ref_ptr
+itself_once a b r r' p q = ap (λ (x : Bor (List ℕ)). x.ref_ptr) (p ∙ sym q)
 
 pub longer_once : calls.Longer
 longer_once = record {
@@ -101,7 +93,7 @@ pub add_cue_once : calls.AddCue
 add_cue_once = equals (λ M. add_cue.met)
 
 pub code_of_once : calls.CodeOf
-code_of_once = record { keeps = λ M. code_of_lem.met; once = λ κs a r r' x x' p q. p.1 ∙ sym q.1 }
+code_of_once = record { keeps = λ M. code_of.met; once = λ κs a r r' x x' p q. p.1 ∙ sym q.1 }
 
 pub night_fresh_once : calls.NightFresh
 night_fresh_once = equals (λ M. night_fresh.met)
