@@ -1,4 +1,6 @@
 // The sheet's work on lent buffers: what `sheet` reads is judged, played and told here, and its main only reads, calls and writes.
+#![tactic(auto)]
+
 ghost use Rattle.std.specs.Prelude.{◌≡◌, ◌+◌, ◌≤◌, ◌<◌, ◌^◌, length, eqb, cond};
 ghost use Rattle.model.specs.InUse.{card_of, logs_of};
 ghost use Rattle.model.specs.Sheet.{size_of, size_given, load_cues};
@@ -53,7 +55,7 @@ pub fn records_in(bytes: &[u8]) -> u64
 }
 
 // What adding cue records hands back: 0 and how many there were, or the first refusal's number and its index.
-#[derive(Drop)]
+#[derive(Clone, Copy)]
 pub struct Added {
     pub number: u8,
     pub index: u64,
@@ -129,7 +131,7 @@ pub fn tell_log(
 }
 
 // What telling turns hands back: the racks, the place behind the lines written, and how many turns were taken.
-#[derive(Drop)]
+#[derive(Clone, Copy)]
 pub struct Told {
     pub racks: [Rack; 8],
     pub place: usize,
@@ -176,7 +178,7 @@ pub fn tell_turns(
       taken = result.taken;
     }
         ≡ tell_turns size (card_of cells.old logs.old decisions.old racks)
-        out.old 0 index 0 (pieces bytes.entry.now) }
+        out.old 0 index 0 (pieces bytes.now) }
 {
     let mut all = racks;
     let mut place: usize = 0;

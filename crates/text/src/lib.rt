@@ -1,5 +1,7 @@
 // The lines of the sheet, each written into a lent buffer from a place on. A function hands back the place behind what it wrote; the bytes
 // are those of model's text definitions.
+#![tactic(auto)]
+
 ghost use Rattle.std.specs.Prelude.{◌≡◌, ◌+◌, ◌≤◌, ◌<◌, length};
 ghost use Rattle.laws.specs.Text.{decimal};
 ghost use Rattle.model.specs.Sheet.{bad_size_line, bad_cues_line, size_line, refused_line, turns_line, log_line, entry_line};
