@@ -1,12 +1,12 @@
 -- What a program knows of a file that it opened or read. No contract can say which bytes a file has.
-use Rattle.std.specs.Prelude.{◌≡◌, List, Bool, true, false, ℕ, length, ℤ, pos, negsuc}
-use Rattle.io.specs.Counts.{IsPrefixLen}
+use Rattle.std.specs.Prelude.{◌≡◌, List, Bool, true, false, ℕ, length, Option, Some, None}
+use Rattle.files.specs.Counts.{IsPrefixLen}
 use Rattle.files.specs.declared.Got.{Got}
 
--- a failure that was told leaves no number of a file to read
-unfoldable pub Opened : Bool → ℤ → Type 0
-Opened failed (pos fd) = failed ≡ false
-Opened failed (negsuc fd) = Unit {0}
+-- a failure that was told leaves no file to read
+unfoldable pub Opened : {F : Type 0} → Bool → Option F → Type 0
+Opened failed (Some file) = failed ≡ false
+Opened failed None = Unit {0}
 
 -- why reading stopped: a failure was told, or the file has ended, or the buffer is full
 abbrev pub Stopped : Bool → Bool → ℕ → ℕ → Type 0

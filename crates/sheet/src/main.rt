@@ -1,5 +1,7 @@
 // Prints the sheet of a night from the files size.rec, cues.rec and turns.rec. What is printed is made by the proved functions of `tell`,
 // `text`, `cues` and `fresh`; files are read and lines written by `files`; here these are only called.
+#![tactic(auto)]
+
 ghost use Rattle.std.specs.Prelude.{◌≡◌, true, ◌+◌, ◌*◌, ◌≤◌, ◌<◌, length};
 ghost use Rattle.model.specs.InUse.{tables_of, card_of};
 ghost use Rattle.model.specs.Size.{size_fits};
@@ -10,6 +12,8 @@ ghost use Rattle.sheet.specs.Cut.{CuesOf};
 
 use files::File;
 use model::{Rack, Size};
+use std::io::Read;
+use std::rt::Files;
 
 // How many bytes of size.rec are read: one more than "4 bytes", so that a longer file is seen.
 const GIVEN: usize = 5;
@@ -45,7 +49,7 @@ const LINE: usize = 128;
 const OUT: usize = 512 * LINE;
 
 // The night so far: the racks, how many turns were read and taken, and whether there are more or a failure has been told.
-#[derive(Drop)]
+#[derive(Clone, Copy)]
 struct Night {
     racks: [Rack; 8],
     read: u64,
@@ -56,7 +60,8 @@ struct Night {
 
 // One part of turns.rec read, played and told.
 fn play_some(
-    fd: i32,
+    rt: &(impl Print + Eprint),
+    file: &mut Option<impl Read>,
     size: Size,
     cells: &mut [u8],
     logs: &mut [u8],
@@ -68,7 +73,7 @@ fn play_some(
     ensures { PartDone size (card_of cells.new logs.new decisions.new result.racks) night.read result.read result.taken }
 {
     let mut buf = [0u8; PART];
-    let got = files::read_part(fd, b"turns.rec", &mut buf);
+    let got = files::read_part(rt, file, "turns.rec", &mut buf);
     let racks = night.racks;
     if got.failed {
         return Night {
@@ -93,7 +98,7 @@ fn play_some(
     );
     let place = told.place;
     let after = told.racks;
-    let is_written = files::print(&out[..place]);
+    let is_written = files::print(rt, &out[..place]);
     Night {
         racks: after,
         read: night.read + count,
@@ -105,7 +110,8 @@ fn play_some(
 
 // All of turns.rec, part by part.
 fn play_all(
-    fd: i32,
+    rt: &(impl Print + Eprint),
+    file: &mut Option<impl Read>,
     size: Size,
     cells: &mut [u8],
     logs: &mut [u8],
@@ -128,7 +134,7 @@ fn play_all(
         if !night.more {
             return night;
         }
-        night = play_some(fd, size, cells, logs, decisions, night, out);
+        night = play_some(rt, file, size, cells, logs, decisions, night, out);
         left -= 1;
     }
     night
@@ -136,6 +142,7 @@ fn play_all(
 
 // The logs of one rack.
 fn print_rack(
+    rt: &(impl Print + Eprint),
     size: Size,
     logs: &[u8],
     lists: &[u8],
@@ -149,7 +156,7 @@ fn print_rack(
     let mut lane: usize = 0;
     while lane < lanes {
         let place = tell::tell_log(size, logs, lists, rack, lane, finished, out);
-        let is_written = files::print(&out[..place]);
+        let is_written = files::print(rt, &out[..place]);
         if !is_written {
             return false;
         }
@@ -159,7 +166,14 @@ fn print_rack(
 }
 
 // "then for each rack and lane"
-fn print_racks(size: Size, logs: &[u8], lists: &[u8], racks: [Rack; 8], out: &mut [u8])
+fn print_racks(
+    rt: &(impl Print + Eprint),
+    size: Size,
+    logs: &[u8],
+    lists: &[u8],
+    racks: [Rack; 8],
+    out: &mut [u8],
+)
     requires { LogsReady size logs.now lists.now racks out.old }
 {
     let count = size.racks;
@@ -167,7 +181,7 @@ fn print_racks(size: Size, logs: &[u8], lists: &[u8], racks: [Rack; 8], out: &mu
     while rack < count {
         let r = racks[rack];
         let finished = (r.round as usize) - 1;
-        let is_written = print_rack(size, logs, lists, rack, finished, out);
+        let is_written = print_rack(rt, size, logs, lists, rack, finished, out);
         if !is_written {
             return;
         }
@@ -176,43 +190,51 @@ fn print_racks(size: Size, logs: &[u8], lists: &[u8], racks: [Rack; 8], out: &mu
 }
 
 // Opens turns.rec and prints "the size line".
-fn start(size: Size) -> File {
-    let file = files::open(b"turns.rec");
+fn start<R: Files + Print + Eprint>(rt: &R, size: Size) -> File<R::File> {
+    let file = files::open(rt, "turns.rec");
     if file.failed {
         return file;
     }
     let mut out = [0u8; LINE];
     let place = text::size_line(&mut out, 0, size);
-    let fine = files::print(&out[..place]);
+    let fine = files::print(rt, &out[..place]);
     File {
         failed: !fine,
-        fd: file.fd,
+        file: file.file,
     }
 }
 
 // "a line of turns read, taken and refused"
-fn print_turns(read: u64, taken: u64, out: &mut [u8]) -> bool
+fn print_turns(rt: &(impl Print + Eprint), read: u64, taken: u64, out: &mut [u8]) -> bool
     requires { (taken ≤ read) × (65536 ≤ length out.old) }
 {
     let place = text::turns_line(out, 0, read, taken, read - taken);
-    files::print(&out[..place])
+    files::print(rt, &out[..place])
 }
 
 // What is printed when all turns are played.
-fn print_played(size: Size, logs: &[u8], lists: &[u8], night: Night, out: &mut [u8])
+fn print_played(
+    rt: &(impl Print + Eprint),
+    size: Size,
+    logs: &[u8],
+    lists: &[u8],
+    night: Night,
+    out: &mut [u8],
+)
     requires { (night.taken ≤ night.read) × LogsReady size logs.now lists.now night.racks out.old }
 {
-    let is_printed = print_turns(night.read, night.taken, out);
+    let is_printed = print_turns(rt, night.read, night.taken, out);
     if !is_printed {
         return;
     }
     let racks = night.racks;
-    print_racks(size, logs, lists, racks, out);
+    print_racks(rt, size, logs, lists, racks, out);
 }
 
 // The night played and told, behind the size line.
 fn print_night(
-    fd: i32,
+    rt: &(impl Print + Eprint),
+    file: &mut Option<impl Read>,
     size: Size,
     cells: &mut [u8],
     logs: &mut [u8],
@@ -224,15 +246,15 @@ fn print_night(
 {
     let reply = fresh::fresh(size, cells, logs, decisions);
     let racks = reply.racks;
-    let night = play_all(fd, size, cells, logs, decisions, racks, out);
+    let night = play_all(rt, file, size, cells, logs, decisions, racks, out);
     if night.failed {
         return;
     }
-    print_played(size, logs, lists, night, out);
+    print_played(rt, size, logs, lists, night, out);
 }
 
 // The tables of a size, on the stack.
-fn print_sheet(fd: i32, size: Size, lists: &[u8])
+fn print_sheet(rt: &(impl Print + Eprint), file: &mut Option<impl Read>, size: Size, lists: &[u8])
     requires { (size_fits size ≡ true) × (lists_fit size.racks size.lanes lists.now ≡ true) }
 {
     let mut cells = [0u8; CELLS];
@@ -244,7 +266,8 @@ fn print_sheet(fd: i32, size: Size, lists: &[u8])
     let b = 2 * count;
     let c = size.rounds * size.lanes;
     print_night(
-        fd,
+        rt,
+        file,
         size,
         &mut cells[..a],
         &mut logs[..b],
@@ -255,21 +278,21 @@ fn print_sheet(fd: i32, size: Size, lists: &[u8])
 }
 
 // "the first bad cue record prints `bad cues` and its index from 0, alone"
-fn print_bad_cues(index: u64) {
+fn print_bad_cues(rt: &(impl Print + Eprint), index: u64) {
     let mut out = [0u8; LINE];
     let place = text::bad_cues(&mut out, 0, index);
-    files::print(&out[..place]);
+    files::print(rt, &out[..place]);
 }
 
 // "prints `bad size` alone"
-fn print_bad_size() {
+fn print_bad_size(rt: &(impl Print + Eprint)) {
     let mut out = [0u8; LINE];
     let place = text::bad_size(&mut out, 0);
-    files::print(&out[..place]);
+    files::print(rt, &out[..place]);
 }
 
 // What reading the cues gave: a failure that has been told, or 0 and their number, or a refusal's number and its index.
-#[derive(Drop)]
+#[derive(Clone, Copy)]
 struct Cues {
     failed: bool,
     number: u8,
@@ -277,11 +300,11 @@ struct Cues {
 }
 
 // The cues listed from as much of cues.rec as the room lent takes: with that much these are the cues of the whole file.
-fn list_cues(size: Size, lists: &mut [u8], room: &mut [u8]) -> Cues
+fn list_cues(rt: &(impl Files + Eprint), size: Size, lists: &mut [u8], room: &mut [u8]) -> Cues
     requires { length room.old ≡ cues_read }
     ensures { CuesOf size.racks size.lanes lists.old (record { number = result.number; index = result.index; lists = lists.new }) }
 {
-    let got = files::load(b"cues.rec", room);
+    let got = files::load(rt, "cues.rec", room);
     let n = got.count;
     let added = tell::tell_cues(size.racks, size.lanes, lists, &room[..n]);
     Cues {
@@ -292,53 +315,53 @@ fn list_cues(size: Size, lists: &mut [u8], room: &mut [u8]) -> Cues
 }
 
 // The cues read and listed.
-fn load_cues(size: Size, lists: &mut [u8]) -> Cues
+fn load_cues(rt: &(impl Files + Eprint), size: Size, lists: &mut [u8]) -> Cues
     ensures { CuesOf size.racks size.lanes lists.old (record { number = result.number; index = result.index; lists = lists.new }) }
 {
     let mut room = [0u8; CUES];
-    list_cues(size, lists, &mut room)
+    list_cues(rt, size, lists, &mut room)
 }
 
 // The cues listed in the lists lent, then the sheet.
-fn print_listed(size: Size, lists: &mut [u8])
+fn print_listed(rt: &(impl Files + Print + Eprint), size: Size, lists: &mut [u8])
     requires { (size_fits size ≡ true) × (length lists.old ≡ 128 * (size.racks * size.lanes)) }
 {
-    let cues = load_cues(size, lists);
+    let cues = load_cues(rt, size, lists);
     if cues.failed {
         return;
     }
     if cues.number != 0 {
-        print_bad_cues(cues.index);
+        print_bad_cues(rt, cues.index);
         return;
     }
-    let file = start(size);
+    let mut file = start(rt, size);
     if file.failed {
         return;
     }
-    print_sheet(file.fd, size, lists);
+    print_sheet(rt, &mut file.file, size, lists);
 }
 
 // The cue lists of a size, on the stack.
-fn print_all(size: Size)
+fn print_all(rt: &(impl Files + Print + Eprint), size: Size)
     requires { size_fits size ≡ true }
 {
     let mut all = [0u8; LISTS];
     let n = LIST * (size.racks * size.lanes);
-    print_listed(size, &mut all[..n]);
+    print_listed(rt, size, &mut all[..n]);
 }
 
-fn main() {
+fn main(rt: HostRuntime) {
     let mut given = [0u8; GIVEN];
-    let got = files::load(b"size.rec", &mut given);
+    let got = files::load(&rt, "size.rec", &mut given);
     if got.failed {
         return;
     }
     let n = got.count;
     let is_given = tell::size_given(&given[..n]);
     if !is_given {
-        print_bad_size();
+        print_bad_size(&rt);
         return;
     }
     let size = tell::size_of(&given[..n]);
-    print_all(size);
+    print_all(&rt, size);
 }

@@ -1,22 +1,24 @@
 // The public calls tried as a firmware engineer would: wrong lengths, sizes out of range, a changed byte, records of 3 and 5 bytes. Each
 // line says what was tried, the number that came back, and whether the tables and racks are as they were before the call. Every turn is
 // given the racks that the reply before it handed back, so the last two turns show that a night goes on behind refused ones.
+#![tactic(auto)]
+
 use model::{Cell, Rack, Size, Value};
 
 fn wide(x: u8) -> u64 {
     x as u64
 }
 
-fn tell(what: &[u8], number: u8) {
-    io::write_all(1, what);
-    io::print_decimal(1, wide(number));
+fn tell(rt: &impl Print, what: &str, number: u8) {
+    let number = wide(number);
+    let _ = print!(rt; "{what}{number}");
 }
 
-fn tell_left(left: bool) {
+fn tell_left(rt: &impl Print, left: bool) {
     if left {
-        io::write_all(1, b", all as it was\n");
+        let _ = println!(rt; ", all as it was");
     } else {
-        io::write_all(1, b", changed\n");
+        let _ = println!(rt; ", changed");
     }
 }
 
@@ -133,7 +135,8 @@ fn same_racks(a: [Rack; 8], b: [Rack; 8]) -> bool {
 
 // One turn with one lane and one round, told; hands back the racks of the reply.
 fn tried(
-    what: &[u8],
+    rt: &impl Print,
+    what: &str,
     racks: usize,
     cells: &mut [u8],
     logs: &mut [u8],
@@ -150,18 +153,19 @@ fn tried(
     let l = copied(logs);
     let d = copied(decisions);
     let reply = card::turn(size, cells, logs, decisions, all, turn);
-    tell(what, reply.number);
+    tell(rt, what, reply.number);
     let after = reply.racks;
     let same_c = same_bytes(cells, c);
     let same_l = same_bytes(logs, l);
     let same_d = same_bytes(decisions, d);
     let same_r = same_racks(all, after);
-    tell_left(same_c & (same_l & (same_d & same_r)));
+    tell_left(rt, same_c & (same_l & (same_d & same_r)));
     after
 }
 
 // Sizes out of range, and lengths that are not exact.
 fn sizes(
+    rt: &impl Print,
     cells: &mut [u8; 24],
     logs: &mut [u8; 2],
     decisions: &mut [u8; 1],
@@ -171,10 +175,11 @@ fn sizes(
     let mut few_cells = [0u8; 23];
     let mut few_logs = [0u8; 1];
     let mut two_decisions = [255u8; 2];
-    let a = tried(b"no racks: ", 0, cells, logs, decisions, all, &turn);
-    let b = tried(b"255 racks: ", 255, cells, logs, decisions, a, &turn);
+    let a = tried(rt, "no racks: ", 0, cells, logs, decisions, all, &turn);
+    let b = tried(rt, "255 racks: ", 255, cells, logs, decisions, a, &turn);
     let c = tried(
-        b"a cell table of 23 bytes: ",
+        rt,
+        "a cell table of 23 bytes: ",
         1,
         &mut few_cells,
         logs,
@@ -183,7 +188,8 @@ fn sizes(
         &turn,
     );
     let d = tried(
-        b"a log table of 1 byte: ",
+        rt,
+        "a log table of 1 byte: ",
         1,
         cells,
         &mut few_logs,
@@ -192,7 +198,8 @@ fn sizes(
         &turn,
     );
     tried(
-        b"a decision table of 2 bytes: ",
+        rt,
+        "a decision table of 2 bytes: ",
         1,
         cells,
         logs,
@@ -204,6 +211,7 @@ fn sizes(
 
 // One byte changed in each table, and put back.
 fn damages(
+    rt: &impl Print,
     cells: &mut [u8; 24],
     logs: &mut [u8; 2],
     decisions: &mut [u8; 1],
@@ -211,11 +219,21 @@ fn damages(
 ) -> [Rack; 8] {
     let turn = [0u8, 255, 255, 0];
     cells[7] = 1;
-    let a = tried(b"a spare byte set: ", 1, cells, logs, decisions, all, &turn);
+    let a = tried(
+        rt,
+        "a spare byte set: ",
+        1,
+        cells,
+        logs,
+        decisions,
+        all,
+        &turn,
+    );
     cells[7] = 0;
     cells[16] = 1;
     let b = tried(
-        b"a second cell marked as a first: ",
+        rt,
+        "a second cell marked as a first: ",
         1,
         cells,
         logs,
@@ -226,7 +244,8 @@ fn damages(
     cells[16] = 0;
     logs[0] = 1;
     let c = tried(
-        b"an entry with number 0: ",
+        rt,
+        "an entry with number 0: ",
         1,
         cells,
         logs,
@@ -237,7 +256,8 @@ fn damages(
     logs[0] = 0;
     decisions[0] = 1;
     let d = tried(
-        b"a decision for no rack: ",
+        rt,
+        "a decision for no rack: ",
         1,
         cells,
         logs,
@@ -251,6 +271,7 @@ fn damages(
 
 // Rack 0 past its round, and put back.
 fn spoiled(
+    rt: &impl Print,
     cells: &mut [u8; 24],
     logs: &mut [u8; 2],
     decisions: &mut [u8; 1],
@@ -262,7 +283,8 @@ fn spoiled(
     r.step = 6;
     there[0] = r;
     let mut back = tried(
-        b"a step past the round: ",
+        rt,
+        "a step past the round: ",
         1,
         cells,
         logs,
@@ -277,13 +299,20 @@ fn spoiled(
 }
 
 // Records that are not 4 bytes; then the offer and the answer of the sheet example are taken.
-fn records(cells: &mut [u8; 24], logs: &mut [u8; 2], decisions: &mut [u8; 1], all: [Rack; 8]) {
+fn records(
+    rt: &impl Print,
+    cells: &mut [u8; 24],
+    logs: &mut [u8; 2],
+    decisions: &mut [u8; 1],
+    all: [Rack; 8],
+) {
     let short = [0u8, 255, 255];
     let long = [0u8, 255, 255, 0, 0];
     let offer = [0u8, 255, 255, 0];
     let answer = [0u8, 0, 0, 0];
     let a = tried(
-        b"a record of 3 bytes: ",
+        rt,
+        "a record of 3 bytes: ",
         1,
         cells,
         logs,
@@ -292,7 +321,8 @@ fn records(cells: &mut [u8; 24], logs: &mut [u8; 2], decisions: &mut [u8; 1], al
         &short,
     );
     let b = tried(
-        b"a record of 5 bytes: ",
+        rt,
+        "a record of 5 bytes: ",
         1,
         cells,
         logs,
@@ -300,11 +330,11 @@ fn records(cells: &mut [u8; 24], logs: &mut [u8; 2], decisions: &mut [u8; 1], al
         a,
         &long,
     );
-    let c = tried(b"the offer: ", 1, cells, logs, decisions, b, &offer);
-    tried(b"the answer: ", 1, cells, logs, decisions, c, &answer);
+    let c = tried(rt, "the offer: ", 1, cells, logs, decisions, b, &offer);
+    tried(rt, "the answer: ", 1, cells, logs, decisions, c, &answer);
 }
 
-fn main() {
+fn main(rt: HostRuntime) {
     let size = Size {
         racks: 1,
         lanes: 1,
@@ -314,11 +344,11 @@ fn main() {
     let mut logs = [9u8; 2];
     let mut decisions = [9u8; 1];
     let start = fresh::fresh(size, &mut cells, &mut logs, &mut decisions);
-    tell(b"fresh: ", start.number);
-    io::write_all(1, b"\n");
+    tell(&rt, "fresh: ", start.number);
+    let _ = println!(rt);
     let a = start.racks;
-    let b = sizes(&mut cells, &mut logs, &mut decisions, a);
-    let c = damages(&mut cells, &mut logs, &mut decisions, b);
-    let d = spoiled(&mut cells, &mut logs, &mut decisions, c);
-    records(&mut cells, &mut logs, &mut decisions, d);
+    let b = sizes(&rt, &mut cells, &mut logs, &mut decisions, a);
+    let c = damages(&rt, &mut cells, &mut logs, &mut decisions, b);
+    let d = spoiled(&rt, &mut cells, &mut logs, &mut decisions, c);
+    records(&rt, &mut cells, &mut logs, &mut decisions, d);
 }
