@@ -1,4 +1,4 @@
-//! Links the proved card's static library, which `rt staticlib ports` writes.
+//! Links the proved card's static library, which `tools/archive` writes.
 
 use std::env;
 use std::path::PathBuf;
@@ -14,7 +14,7 @@ fn main() {
     let archive = folder.join(format!("lib{LIBRARY}.a"));
     println!("cargo:rerun-if-changed={}", archive.display());
     if !archive.is_file() {
-        eprintln!("{FOLDER}/lib{LIBRARY}.a is missing: run `rt staticlib {LIBRARY}` first");
+        eprintln!("{FOLDER}/lib{LIBRARY}.a is missing: run `tools/archive` first");
         exit(1);
     }
     println!("cargo:rustc-link-search=native={}", folder.display());
