@@ -249,7 +249,7 @@ fn the_demands_name_what_is_declared() {
         };
         let names = names.unwrap_or_default();
         assert_eq!(&names - &scope, Names::new(), "{line}");
-        let is_name = |name: &String| name.chars().all(|c| c.is_alphanumeric() || c == '-');
+        let is_name = |name: &String| name.chars().all(|c| c.is_alphanumeric() || c == '_');
         let others: Names = quoted(cell).into_iter().filter(is_name).collect();
         // A word of the language and a program are no names of a theorem.
         let words: Names = ["requires", "sheet"].map(str::to_string).into();

@@ -24,13 +24,15 @@ pub fn folder(inside: &str) -> Vec<String> {
         .collect()
 }
 
-/// The files below a folder with this ending.
+/// The files below a folder with this ending, but for what a check keeps: copies of proof files in a crate's `out`.
 pub fn files_below(inside: &str, ending: &str) -> Vec<String> {
     let mut found = Vec::new();
     for name in folder(inside) {
         let below = format!("{inside}/{name}");
         if path(&below).is_dir() {
-            found.extend(files_below(&below, ending));
+            if name != "out" {
+                found.extend(files_below(&below, ending));
+            }
         } else if name.ends_with(ending) {
             found.push(below);
         }
@@ -80,6 +82,20 @@ pub fn declared(inside: &str) -> Names {
     };
     let texts: Vec<String> = files.iter().map(|file| read(file)).collect();
     let lines = texts.iter().flat_map(|text| text.lines());
+    lines.filter_map(declares).map(str::to_string).collect()
+}
+
+/// The theorems of a file: what stands in `proofs` and is no definition.
+pub fn proved(inside: &str) -> Names {
+    if !inside.contains("/proofs/") {
+        return Names::new();
+    }
+    let defines = |line: &&str| {
+        let mut words = line.split_whitespace();
+        words.any(|word| ["abbrev", "unfoldable", "record", "data"].contains(&word))
+    };
+    let text = read(inside);
+    let lines = text.lines().filter(|line| !defines(line));
     lines.filter_map(declares).map(str::to_string).collect()
 }
 

@@ -1,10 +1,10 @@
 //! docs/PROMISES.md against the text of the proved crates: every public call has a row and a law, its row names the definitions that its contract
-//! cites and the wrong bodies that were tried, its promise names all that is lent for writing, and every inner call that requires something has a
-//! row that names the crates of its callers.
+//! cites and the wrong bodies that were tried, its promise names all that is lent for writing, what is exported to C promises what its call does,
+//! and every inner call that requires something has a row that names the crates of its callers.
 
 use std::collections::BTreeMap;
 
-use crate::pages::{declared, edits, folder, links, quoted, quoted_in_order, read, Names};
+use crate::pages::{declared, edits, folder, links, proved, quoted, quoted_in_order, read, Names};
 
 const PUBLIC: [&str; 7] = [
     "fresh", "card", "entry", "compare", "turns", "cues", "ports",
@@ -110,11 +110,17 @@ fn calls(heading: &str) -> Names {
         .collect()
 }
 
-/// The name that an import of a call's contract, or of its theorem, has in a file.
-fn alias(text: &str, call: &str, theorem: &str) -> String {
-    let import = format!("use Rattle·{}{theorem} as ", call.replace("::", ".proofs."));
+/// The name that an import of a call's contract (`.specs.contracts.`), or of its code or theorem (`.proofs.`), has in a file.
+fn alias(text: &str, call: &str, inside: &str, theorem: &str) -> String {
+    let import = format!("use Rattle.{}{theorem} as ", call.replace("::", inside));
     let found = text.lines().find_map(|line| line.strip_prefix(&import));
     found.unwrap_or_else(|| panic!("{import}")).to_string()
+}
+
+/// The words of a clause or of a declaration's body.
+fn words(text: &str) -> Vec<&str> {
+    let words = text.split(|c: char| c.is_whitespace() || "(){};,".contains(c));
+    words.collect()
 }
 
 /// A declaration with its body: what it is declared as, and the words behind that.
@@ -125,8 +131,7 @@ fn declaration<'a>(text: &'a str, name: &str) -> (&'a str, Vec<&'a str>) {
         .find_map(|block| Some(&block[block.find(&head)?..]))
         .unwrap_or_else(|| panic!("{name}"));
     let (kind, body) = block[head.len()..].split_once('\n').expect(name);
-    let words = body.split(|c: char| c.is_whitespace() || "(){};,".contains(c));
-    (kind, words.collect())
+    (kind, words(body))
 }
 
 #[test]
@@ -143,14 +148,21 @@ fn every_public_call_has_a_row_and_a_law() {
     let laws = read("crates/promises/proofs/Once.antt");
     let mut kept = Names::new();
     for call in &told {
-        let function = call.split("::").nth(1).unwrap().replace('_', "-");
-        let (promise, law) = declaration(&laws, &format!("pub {function}-once"));
-        let theorem = format!("{}.met", alias(&laws, call, ".Met"));
+        let function = call.split("::").nth(1).unwrap();
+        let (promise, law) = declaration(&laws, &format!("pub {function}_once"));
+        let theorem = format!("{}.met", alias(&laws, call, ".proofs.", ".Met"));
         assert!(law.contains(&theorem.as_str()), "{theorem} in Once.antt");
         let promise = promise.strip_prefix("calls.").expect(call);
         let (_, said) = declaration(&promises, &format!("abbrev pub {promise}"));
-        let contract = format!("{}.ended", alias(&promises, call, ""));
-        assert!(said.contains(&contract.as_str()), "{contract} in {promise}");
+        let contract = alias(&promises, call, ".specs.contracts.", "");
+        let code = alias(&promises, call, ".proofs.", "");
+        for named in [
+            format!("{contract}.ended"),
+            format!("{code}.Symbol.code"),
+            format!("{code}.Symbol.name"),
+        ] {
+            assert!(said.contains(&named.as_str()), "{named} in {promise}");
+        }
         kept.insert(promise.to_string());
     }
     assert_eq!(kept.len(), told.len());
@@ -167,15 +179,16 @@ fn every_row_names_what_the_contract_cites() {
             .map(str::to_string)
             .collect();
         let linked: Names = links(promise).iter().flat_map(|to| declared(to)).collect();
+        let theorems: Names = links(promise).iter().flat_map(|to| proved(to)).collect();
         let named = quoted(promise);
         assert!(
             !named.is_empty() || promise.starts_with("two equations"),
             "{call}: {promise}"
         );
         for name in named {
-            // A theorem has hyphens, and is about the definition that the contract cites.
+            // A theorem is about the definition that the contract cites.
             assert!(
-                name.contains('-') || cited.contains(&name),
+                theorems.contains(&name) || cited.contains(&name),
                 "{name} in {call}"
             );
             assert!(linked.contains(&name), "{name} of {call} in its files");
@@ -244,11 +257,31 @@ fn every_promise_names_what_is_lent_for_writing() {
     for (call, head) in PUBLIC.iter().flat_map(|name| exported(name)) {
         for (lent, _) in head.match_indices(": &mut ") {
             let name = head[..lent].rsplit([' ', '(']).next().unwrap();
-            assert!(
-                head.contains(&format!("now ({name} .exit)")),
-                "{name} of {call}"
-            );
+            let at_exit = format!("{name}.new");
+            assert!(words(&head).contains(&at_exit.as_str()), "{name} of {call}");
         }
+    }
+}
+
+/// A static library exports what a library says, so each contract stands twice.
+#[test]
+fn what_is_exported_to_c_promises_what_its_call_does() {
+    let of = |name: &str| -> BTreeMap<String, String> {
+        let heads = exported(name).into_iter();
+        heads
+            .map(|(call, head)| {
+                let function = call.split("::").nth(1).unwrap().to_string();
+                (function, head.replace("extern \"C\" ", ""))
+            })
+            .collect()
+    };
+    let calls = of("ports");
+    assert!(calls.len() >= 8, "{} calls", calls.len());
+    assert_eq!(of("ports_c"), calls);
+    for (_, text) in files("ports_c") {
+        let body = |function: &String| text.contains(&format!("{{\n    ports::{function}("));
+        let other: Vec<&String> = calls.keys().filter(|function| !body(function)).collect();
+        assert!(other.is_empty(), "{other:?} do not call theirs");
     }
 }
 

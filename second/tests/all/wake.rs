@@ -11,13 +11,13 @@ use crate::scratch::Scratch;
 const CRATES: &str =
     "# leaves\nlaws:\nmodel: laws # types\ntext: laws\nsheet: io text model\nother: model\n";
 
-/// Stands in for `rt`: proves three of the four crates below `sheet`, `text` having been proved before.
+/// Stands in for `rt`: proves three of the four crates below `sheet`, `text` having been proved before. It takes longer for each than the script
+/// takes to look at all, so that they are told in their order on a busy machine too.
 const RT: &str = "#!/bin/sh
 echo \"rt $*\"
 sleep 0.1
-mkdir -p target/log target/bin
-for crate in laws model sheet; do echo proof >target/log/$crate.say; echo proved >target/log/$crate.out; done
-cp sheet target/bin/sheet
+for crate in laws model sheet; do mkdir -p ../$crate/out; echo proof >../$crate/out/proof; sleep 0.3; done
+cp ../../sheet out/sheet
 sleep 0.5
 ";
 
@@ -35,7 +35,8 @@ fn card(name: &str, rt: &str, sheet: &str) -> Scratch {
     scratch.write("nights/one/README.md", b"A night.\nMore of it.\n");
     scratch.write("nights/one/size.rec", b"one \xff\x00");
     scratch.write("nights/two/size.rec", b"two");
-    scratch.write("target/log/text.say", b"");
+    scratch.write("crates/text/out/proof", b"");
+    scratch.write("crates/sheet/src/main.rt", b"");
     scratch.write_program("bin/rt", rt);
     scratch.write_program("sheet", sheet);
     scratch
@@ -97,7 +98,7 @@ fn it_proves_builds_and_prints_the_sheet() {
     let told = format!("proving and building the card first: some minutes\n{proving}");
     assert_eq!(first, (b"one \xff\x00".to_vec(), told, Some(0)));
     let log = fs::read_to_string(scratch.0.join("target/wake.log"));
-    assert_eq!(log.expect("a log"), "rt check sheet\n");
+    assert_eq!(log.expect("a log"), "rt run sheet\n");
     // A folder of the same name elsewhere is not the one that is meant.
     scratch.write("elsewhere/two/size.rec", b"elsewhere");
     let mut again = wake(&scratch, &["two"]);
