@@ -23,6 +23,7 @@ pub fn sound(size: Size, cells: &[u8], logs: &[u8], decisions: &[u8], racks: [Ra
 }
 
 // One turn: refused with 1 to 8 and nothing changed, or taken.
+#[tactic(auto, using(crate::proofs::Tests::refused))]
 pub fn turn(
     size: Size,
     cells: &mut [u8],

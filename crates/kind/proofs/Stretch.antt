@@ -73,3 +73,32 @@ const_kind_is s step h =
 -- what an arm of the match shows
 pub arm : (s : Size) (step z : ℕ) (kind : Kind) → s.racks ≤ 8 → z ≡ stretch s step → const_kind z ≡ kind → kind ≡ kind_of s step
 arm s step z kind h e f = sym f ∙ ap const_kind e ∙ const_kind_is s step h
+
+-- so each range of the stretched number shows its kind
+module _ (s : Size) (step : ℕ) where
+  shown : (kind : Kind) → s.racks ≤ 8 → const_kind (stretch s step) ≡ kind → kind ≡ kind_of s step
+  shown kind h e = arm s step (stretch s step) kind h refl e
+
+  pub offer_at : stretch s step ≡ 0 → s.racks ≤ 8 → Offer ≡ kind_of s step
+  unfolding const_kind
+  offer_at e h = shown Offer h (ap const_kind e)
+
+  pub answer_at : stretch s step ≡ 1 → s.racks ≤ 8 → Answer ≡ kind_of s step
+  unfolding const_kind
+  answer_at e h = shown Answer h (ap const_kind e)
+
+  pub first_write_at : stretch s step ≡ 2 → s.racks ≤ 8 → FirstWrite ≡ kind_of s step
+  unfolding const_kind
+  first_write_at e h = shown FirstWrite h (ap const_kind e)
+
+  pub first_read_at : 3 ≤ stretch s step → stretch s step ≤ 10 → s.racks ≤ 8 → FirstRead ≡ kind_of s step
+  first_read_at a b h = shown FirstRead h (first_reads (stretch s step) a b)
+
+  pub second_write_at : stretch s step ≡ 11 → s.racks ≤ 8 → SecondWrite ≡ kind_of s step
+  unfolding const_kind
+  second_write_at e h = shown SecondWrite h (ap const_kind e)
+
+  pub second_read_at : 11 < stretch s step → s.racks ≤ 8 → SecondRead ≡ kind_of s step
+  second_read_at a h = shown SecondRead h (second_reads (stretch s step) (omega arith) (λ e. omega arith))
+
+pub ruleset kinds = (offer_at, answer_at, first_write_at, first_read_at, second_write_at, second_read_at)

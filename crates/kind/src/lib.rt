@@ -77,6 +77,7 @@ fn stretched(size: Size, step: usize) -> usize
 }
 
 // "Which of the six kinds comes next is a matter of the step number's range."
+#[tactic(auto, using(crate::proofs::Stretch::kinds))]
 pub fn kind_of(size: Size, step: usize) -> Kind
     requires { size.racks ≤ 8 }
     ensures { result ≡ kind_of size step }

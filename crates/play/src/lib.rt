@@ -11,6 +11,7 @@ ghost use Rattle.play.specs.Rack.{rack_named, rack_turned};
 use model::{Rack, Reply, Size};
 
 // "turn not 4 bytes, last byte not zero, or rack at or above n"
+#[tactic(auto, unfolding(model::specs::Turn::bad_record))]
 fn bad_record(size: Size, turn: &[u8]) -> bool
     ensures { result ≡ bad_record size turn.now }
 {
@@ -23,6 +24,7 @@ fn bad_record(size: Size, turn: &[u8]) -> bool
 }
 
 // The rack that a record names, 0 where the record is bad.
+#[tactic(auto, using(model::proofs::Turns::good), unfolding(crate::specs::Rack::rack_named))]
 pub fn rack_named(size: Size, turn: &[u8]) -> usize
     ensures { result ≡ rack_named size turn.now }
 {

@@ -34,7 +34,7 @@ use Rattle.promises.specs.Promise.{Call, Keeps, Seen, Given, Equals}
 use Rattle.promises.specs.Calls as calls
 
 -- the law, for a promise that is an equation
-equals : {T : Ended} {call : Call} {O : Type 0} {seen : Seen T O} {given : Given T O}
+pub equals : {T : Ended} {call : Call} {O : Type 0} {seen : Seen T O} {given : Given T O}
     → Keeps T call (λ κs a r x. seen κs r x ≡ given κs a) → Equals T call seen given
 equals met = record { keeps = met; once = λ κs a r r' x x' p q. p ∙ sym q }
 

@@ -62,7 +62,7 @@ use Rattle.ports.proofs.night_add_cue as night_add_cue_proved
 use Rattle.ports.proofs.night_code_of as night_code_of_proved
 use Rattle.promises.specs.Promise.{Call, Promises, Equals}
 
-abbrev call : Code → Callee → Call
+abbrev pub call : Code → Callee → Call
 call code name = record { code = code; name = name }
 
 abbrev Bytes : Type 0
@@ -153,47 +153,73 @@ CodeOf =
     × (r ≡ code_of racks lanes lists.now rack lane number))
     (λ κs r x. r)
 
--- what a firmware links
+-- what a firmware links: each promise is one of any call of that signature, and so of the call of `ports` and of its export
 abbrev sized : ℕ → ℕ → ℕ → Size
 sized n k rounds = record { racks = n; lanes = k; rounds = rounds }
 
-abbrev pub NightFresh : Type 2
-NightFresh =
-    Equals night_fresh.ended (call night_fresh_proved.Symbol.code night_fresh_proved.Symbol.name)
+abbrev pub NightFreshBy : Call → Type 2
+NightFreshBy c =
+    Equals night_fresh.ended c
     (λ κs r (n, (k, (rounds, (cells, (logs, (decisions, _)))))). outcome r.number cells.now logs.now decisions.now r.racks.rack)
     (λ κs (n, (k, (rounds, (cells, (logs, (decisions, _)))))). filled (sized n k rounds) (tables_of cells.now logs.now decisions.now))
 
-abbrev pub NightSound : Type 2
-NightSound =
-    Equals night_sound.ended (call night_sound_proved.Symbol.code night_sound_proved.Symbol.name) (λ κs r x. r)
+abbrev pub NightFresh : Type 2
+NightFresh = NightFreshBy (call night_fresh_proved.Symbol.code night_fresh_proved.Symbol.name)
+
+abbrev pub NightSoundBy : Call → Type 2
+NightSoundBy c =
+    Equals night_sound.ended c (λ κs r x. r)
     (λ κs (n, (k, (rounds, (cells, (logs, (decisions, (racks, _))))))).
     soundness (sized n k rounds) (card_of cells.now logs.now decisions.now racks.rack))
 
-abbrev pub NightTurn : Type 2
-NightTurn =
-    Equals night_turn.ended (call night_turn_proved.Symbol.code night_turn_proved.Symbol.name)
+abbrev pub NightSound : Type 2
+NightSound = NightSoundBy (call night_sound_proved.Symbol.code night_sound_proved.Symbol.name)
+
+abbrev pub NightTurnBy : Call → Type 2
+NightTurnBy c =
+    Equals night_turn.ended c
     (λ κs r (n, (k, (rounds, (cells, (logs, (decisions, _)))))). outcome r.number cells.now logs.now decisions.now r.racks.rack)
     (λ κs (n, (k, (rounds, (cells, (logs, (decisions, (racks, (bytes, _)))))))).
     turned (sized n k rounds) (card_of cells.now logs.now decisions.now racks.rack) bytes.now)
 
-abbrev pub NightLogEntry : Type 2
-NightLogEntry =
-    Equals night_log_entry.ended (call night_log_entry_proved.Symbol.code night_log_entry_proved.Symbol.name) (λ κs r x. r)
+abbrev pub NightTurn : Type 2
+NightTurn = NightTurnBy (call night_turn_proved.Symbol.code night_turn_proved.Symbol.name)
+
+abbrev pub NightLogEntryBy : Call → Type 2
+NightLogEntryBy c =
+    Equals night_log_entry.ended c (λ κs r x. r)
     (λ κs (n, (k, (rounds, (logs, (rack, (lane, (place, _))))))). entry_told (log_entry (sized n k rounds) (logs_of logs.now) rack lane place))
 
+abbrev pub NightLogEntry : Type 2
+NightLogEntry = NightLogEntryBy (call night_log_entry_proved.Symbol.code night_log_entry_proved.Symbol.name)
+
+abbrev pub NightAgreeBy : Call → Type 2
+NightAgreeBy c =
+    Equals night_agree.ended c (λ κs r x. r) (λ κs (a, (b, _)). agree_told (agree a.now b.now))
+
 abbrev pub NightAgree : Type 2
-NightAgree = Equals night_agree.ended (call night_agree_proved.Symbol.code night_agree_proved.Symbol.name) (λ κs r x. r) (λ κs (a, (b, _)). agree_told (agree a.now b.now))
+NightAgree = NightAgreeBy (call night_agree_proved.Symbol.code night_agree_proved.Symbol.name)
+
+abbrev pub NightLongerBy : Call → Type 2
+NightLongerBy c =
+    Equals night_longer.ended c (λ κs r x. r) (λ κs (a, (b, _)). longer_told a.now b.now)
 
 abbrev pub NightLonger : Type 2
-NightLonger = Equals night_longer.ended (call night_longer_proved.Symbol.code night_longer_proved.Symbol.name) (λ κs r x. r) (λ κs (a, (b, _)). longer_told a.now b.now)
+NightLonger = NightLongerBy (call night_longer_proved.Symbol.code night_longer_proved.Symbol.name)
 
-abbrev pub NightAddCue : Type 2
-NightAddCue =
-    Equals night_add_cue.ended (call night_add_cue_proved.Symbol.code night_add_cue_proved.Symbol.name)
+abbrev pub NightAddCueBy : Call → Type 2
+NightAddCueBy c =
+    Equals night_add_cue.ended c
     (λ κs r (n, (k, (lists, _))). listed r lists.now)
     (λ κs (n, (k, (lists, (cue, _)))). add_cue n k lists.now cue.now)
 
-abbrev pub NightCodeOf : Type 2
-NightCodeOf =
-    Equals night_code_of.ended (call night_code_of_proved.Symbol.code night_code_of_proved.Symbol.name) (λ κs r x. r)
+abbrev pub NightAddCue : Type 2
+NightAddCue = NightAddCueBy (call night_add_cue_proved.Symbol.code night_add_cue_proved.Symbol.name)
+
+abbrev pub NightCodeOfBy : Call → Type 2
+NightCodeOfBy c =
+    Equals night_code_of.ended c (λ κs r x. r)
     (λ κs (n, (k, (lists, (rack, (lane, (cue, _)))))). code_told (code_of n k lists.now rack lane cue))
+
+abbrev pub NightCodeOf : Type 2
+NightCodeOf = NightCodeOfBy (call night_code_of_proved.Symbol.code night_code_of_proved.Symbol.name)

@@ -153,7 +153,14 @@ fn every_public_call_has_a_row_and_a_law() {
         let theorem = format!("{}.met", alias(&laws, call, ".proofs.", ".Met"));
         assert!(law.contains(&theorem.as_str()), "{theorem} in Once.antt");
         let promise = promise.strip_prefix("calls.").expect(call);
-        let (_, said) = declaration(&promises, &format!("abbrev pub {promise}"));
+        let (_, mut said) = declaration(&promises, &format!("abbrev pub {promise}"));
+        // What a firmware links is promised of any call, and then of this one.
+        let by = format!("{promise}By");
+        if said.contains(&by.as_str()) {
+            let (kind, of_any) = declaration(&promises, &format!("abbrev pub {by}"));
+            assert_eq!(kind, "Call → Type 2", "{by}");
+            said.extend(of_any);
+        }
         let contract = alias(&promises, call, ".specs.contracts.", "");
         let code = alias(&promises, call, ".proofs.", "");
         for named in [
@@ -282,6 +289,19 @@ fn what_is_exported_to_c_promises_what_its_call_does() {
         let body = |function: &String| text.contains(&format!("{{\n    ports::{function}("));
         let other: Vec<&String> = calls.keys().filter(|function| !body(function)).collect();
         assert!(other.is_empty(), "{other:?} do not call theirs");
+    }
+    // The law of an export is that of its call, of the export's own code and name.
+    let called = read("crates/promises/proofs/Once.antt");
+    let exported = read("crates/ports_c/proofs/Once.antt");
+    for function in calls.keys() {
+        let law = format!("pub {function}_once");
+        let (promise, _) = declaration(&called, &law);
+        let (promise_by, kept) = declaration(&exported, &law);
+        let own = alias(&exported, &format!("ports_c::{function}"), ".proofs.", "");
+        let call = format!("(calls.call {own}.Symbol.code {own}.Symbol.name)");
+        assert_eq!(promise_by, format!("{promise}By {call}"));
+        let theorem = format!("{own}.Met.met");
+        assert!(kept.contains(&theorem.as_str()), "{theorem} in {law}");
     }
 }
 

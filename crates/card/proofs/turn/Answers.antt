@@ -1,10 +1,13 @@
 -- Past tests 1 and 2 the inner turn has the same promise.
-use mathlib.Core.Path.{sym, ◌∙◌}
-use Rattle.card.proofs.Tests.{playable, refused}
+use mathlib.Core.Path.{◌≡◌}
+use native.Mathlib.Omega.{arith}
+use Rattle.model.specs.InUse.{card_of}
+use Rattle.model.specs.Turn.{soundness}
+use Rattle.card.proofs.Tests.{playable}
 use Rattle.card.proofs.turn.Goals as goal
 
-pub returns-then-number-ne0 : goal.returns-then-number-ne0
-returns-then-number-ne0 c = refused _ _ _ _ c.sound-number.ensures c.if-number-ne0.true
-
 pub play-requires : goal.play-requires
-play-requires c = playable _ _ (sym c.sound-number.ensures ∙ c.if-number-ne0.false)
+play-requires c =
+    let a = c.args in
+    let e : soundness a.size (card_of a.cells.now a.logs.now a.decisions.now a.racks) ≡ 0 = omega (arith, c.sound-number.ensures) in
+    playable _ _ e

@@ -45,4 +45,4 @@ write_code-requires c = room (goal.at.write_code-requires c).Else-used-ge-MOST
 
 pub returns : goal.returns
 unfolding list_cue listed
-returns c = rw (c.write_code.ensures, ← used (goal.at.returns c).After-length_from-used, lt-leb _ _ c.if-used-ge-MOST.false, ← place (goal.at.returns c).After-list_start-start)
+returns c = rw (c.write_code.ensures, ← used (goal.at.returns c).After-length_from-used, lt-leb 64 c.length_from-used.result (omega arith), ← place (goal.at.returns c).After-list_start-start)
