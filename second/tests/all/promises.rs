@@ -159,6 +159,9 @@ fn every_public_call_has_a_row_and_a_law() {
         if said.contains(&by.as_str()) {
             let (kind, of_any) = declaration(&promises, &format!("abbrev pub {by}"));
             assert_eq!(kind, "Call → Type 2", "{by}");
+            let ended = format!("{}.ended", alias(&promises, call, ".specs.contracts.", ""));
+            let of_it = of_any.windows(2).any(|two| two == [ended.as_str(), "c"]);
+            assert!(of_it, "{by} is of its call");
             said.extend(of_any);
         }
         let contract = alias(&promises, call, ".specs.contracts.", "");
