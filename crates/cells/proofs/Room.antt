@@ -1,5 +1,5 @@
 -- The products in the place of a cell, bounded: the record's place lies in the table, and nothing on the way to it wraps.
-use mathlib.Core.Path.{◌≡◌}
+use mathlib.Core.Path.{◌≡◌, sym, subst}
 use mathlib.Core.List.{List}
 use Prim.Native.Nat.{ℕ, ◌+◌, ◌*◌, ◌-◌, ◌≤◌, ◌<◌}
 use native.Mathlib.Omega.{arith}
@@ -41,6 +41,11 @@ room {s} {cells} {section} {round} {lane} {rack} h =
       inside = cell_below {i = lane} {k = s.lanes} {r = rack} {n = s.racks} p.lane_there p.rack_there;
       place = spot_below s section round lane rack p;
     }
+
+-- the same of a section's index
+pub room_of : {s : Size} {cells : List ℕ} {section index round lane rack : ℕ}
+    → Here s cells section round lane rack → index ≡ section → Room s cells index round lane rack
+room_of {s} {cells} {section} {index} {round} {lane} {rack} h e = subst (λ i. Room s cells i round lane rack) (sym e) (room h)
 
 -- a record's place: where its round's part of the section starts, and the place in that part
 pub in_part : (s : Size) (section round lane rack : ℕ)

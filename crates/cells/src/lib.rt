@@ -1,42 +1,16 @@
-// Cell records: one read, one written, two compared; and the cells of one round, lent on for writing.
+// Cell records: one read, one written; and the cells of one round, lent on for writing.
 #![tactic(auto)]
 
 ghost use Rattle.std.specs.Prelude.{◌≡◌, ◌+◌, ◌*◌, ◌≤◌, ◌<◌, length};
-ghost use Rattle.model.specs.Record.{no_value, no_cell, same_cue, same_value, same_cell, cell_at};
+ghost use Rattle.model.specs.Record.{cell_at};
 ghost use Rattle.model.specs.Form.{stored};
 ghost use Rattle.model.specs.InUse.{cells_of};
-ghost use Rattle.model.specs.Table.{offers, read_cell, write_cell};
+ghost use Rattle.model.specs.Table.{offers, section_of, read_cell, write_cell};
 ghost use Rattle.model.specs.Step.{offers_of};
 ghost use Rattle.cells.specs.Here.{Here};
 ghost use Rattle.cells.specs.Parts.{offers_in};
 
-use model::{Cell, Cue, Rack, Size, Value};
-
-// No value: five zeros.
-pub fn no_value() -> Value
-    ensures { result ≡ no_value }
-{
-    let none = Cue {
-        issuer: 0,
-        number: 0,
-    };
-    Value {
-        place: 0,
-        cue: none,
-        previous: none,
-    }
-}
-
-// An empty cell.
-pub fn no_cell() -> Cell
-    ensures { result ≡ no_cell }
-{
-    let none = no_value();
-    Cell {
-        mark: 0,
-        value: none,
-    }
-}
+use model::{Cell, Cue, Rack, Section, Size, Value};
 
 // The record at index `at`: mark, place, issuer, number, previous issuer, previous number.
 pub fn load(table: &[u8], at: usize) -> Cell
@@ -76,55 +50,21 @@ pub fn store(table: &mut [u8], at: usize, c: Cell)
     table[b + 7] = 0;
 }
 
-// Issuer and number match.
-pub fn same_cue(a: Cue, b: Cue) -> bool
-    ensures { result ≡ same_cue a b }
-{
-    let i = a.issuer == b.issuer;
-    let m = a.number == b.number;
-    i & m
-}
-
-// "all five must match for equal values"
-pub fn same_value(a: Value, b: Value) -> bool
-    ensures { result ≡ same_value a b }
-{
-    let p = a.place == b.place;
-    let ac = a.cue;
-    let bc = b.cue;
-    let c = same_cue(ac, bc);
-    let ap = a.previous;
-    let bp = b.previous;
-    let d = same_cue(ap, bp);
-    p & (c & d)
-}
-
-// Mark and value match.
-pub fn same_cell(a: Cell, b: Cell) -> bool
-    ensures { result ≡ same_cell a b }
-{
-    let m = a.mark == b.mark;
-    let av = a.value;
-    let bv = b.value;
-    let v = same_value(av, bv);
-    m & v
-}
-
 // The cell of a round, lane and rack in a section.
 pub fn read(
     cells: &[u8],
     size: Size,
-    section: usize,
+    section: Section,
     round: usize,
     lane: usize,
     rack: usize,
 ) -> Cell
-    requires { Here size cells.now section round lane rack }
-    ensures { result ≡ read_cell size (cells_of cells.now) section round lane rack }
+    requires { Here size cells.now (section_of section) round lane rack }
+    ensures { result ≡ read_cell size (cells_of cells.now) (section_of section) round lane rack }
 {
     let n = size.racks;
     let k = size.lanes;
-    let at = section * (size.rounds * k * n) + (((round - 1) * k + lane) * n + rack);
+    let at = section.index() * (size.rounds * k * n) + (((round - 1) * k + lane) * n + rack);
     load(cells, at)
 }
 
@@ -140,18 +80,18 @@ fn put(part: &mut [u8], n: usize, lane: usize, rack: usize, c: Cell)
 pub fn write(
     cells: &mut [u8],
     size: Size,
-    section: usize,
+    section: Section,
     round: usize,
     lane: usize,
     rack: usize,
     c: Cell,
 )
-    requires { Here size cells.old section round lane rack }
-    ensures { cells_of cells.new ≡ write_cell size (cells_of cells.old) section round lane rack c }
+    requires { Here size cells.old (section_of section) round lane rack }
+    ensures { cells_of cells.new ≡ write_cell size (cells_of cells.old) (section_of section) round lane rack c }
 {
     let n = size.racks;
     let k = size.lanes;
-    let a = 8 * (section * (size.rounds * k * n) + (round - 1) * k * n);
+    let a = 8 * (section.index() * (size.rounds * k * n) + (round - 1) * k * n);
     let e = a + 8 * (k * n);
     put(&mut cells[a..e], n, lane, rack, c);
 }
@@ -162,9 +102,7 @@ fn put_offers(part: &mut [u8], n: usize, k: usize, rack: usize, held: [Value; 4]
     ensures { part.new ≡ offers_in part.old n rack held k }
 {
     for lane in 0..k {
-        let v = held[lane];
-        let c = Cell { mark: 1, value: v };
-        put(part, n, lane, rack, c);
+        put(part, n, lane, rack, Cell::offered(held[lane]));
     }
 }
 

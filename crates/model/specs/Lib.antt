@@ -9,6 +9,7 @@ pub mod Block
 pub mod Settle
 pub mod Step
 pub mod Sound
+pub mod Refusal
 pub mod Turn
 pub mod InUse
 pub mod Fresh

@@ -3,13 +3,16 @@
 #![tactic(auto)]
 
 ghost use Rattle.std.specs.Prelude.{◌≡◌};
+ghost use Rattle.model.specs.Record.{offered, adopted, committed, is_empty, is_committed};
+ghost use Rattle.model.specs.Table.{section_of};
+ghost use Rattle.model.specs.Refusal.{number_of};
 ghost use Rattle.model.specs.InUse.{logs_of};
 ghost use Rattle.model.specs.Settle.{PartLent, settle_part};
 
 pub mod logs; // logs.rt: logs in a lent table
 
 // n racks, k lanes, R rounds.
-#[derive(Clone, Copy)]
+#[derive(Clone, Copy, Debug, PartialEq, Eq)]
 pub struct Size {
     pub racks: usize,
     pub lanes: usize,
@@ -18,7 +21,7 @@ pub struct Size {
 
 // Cue 3 of rack 0, written 0#3, has issuer 0 and number 3.
 #[repr(C)]
-#[derive(Clone, Copy)]
+#[derive(Clone, Copy, Debug, Default, PartialEq, Eq)]
 pub struct Cue {
     pub issuer: u8,
     pub number: u8,
@@ -26,7 +29,7 @@ pub struct Cue {
 
 // The five middle fields of a cell record.
 #[repr(C)]
-#[derive(Clone, Copy)]
+#[derive(Clone, Copy, Debug, Default, PartialEq, Eq)]
 pub struct Value {
     pub place: u8,
     pub cue: Cue,
@@ -35,15 +38,64 @@ pub struct Value {
 
 // Mark 0 is empty, 1 an offer or a first cell, 2 adopted, 3 committed.
 #[repr(C)]
-#[derive(Clone, Copy)]
+#[derive(Clone, Copy, Debug, Default, PartialEq, Eq)]
 pub struct Cell {
     pub mark: u8,
     pub value: Value,
 }
 
+impl Cell {
+    pub fn offered(value: Value) -> Cell
+        ensures { result ≡ offered value }
+    {
+        Cell { mark: 1, value }
+    }
+
+    pub fn adopted(value: Value) -> Cell
+        ensures { result ≡ adopted value }
+    {
+        Cell { mark: 2, value }
+    }
+
+    pub fn committed(value: Value) -> Cell
+        ensures { result ≡ committed value }
+    {
+        Cell { mark: 3, value }
+    }
+
+    pub fn is_empty(self) -> bool
+        ensures { result ≡ is_empty self }
+    {
+        self.mark == 0
+    }
+
+    pub fn is_committed(self) -> bool
+        ensures { result ≡ is_committed self }
+    {
+        self.mark == 3
+    }
+}
+
+// "It has three sections (offers, first cells, second cells)"
+#[derive(Clone, Copy, Debug, PartialEq, Eq)]
+pub enum Section {
+    Offers,
+    FirstCells,
+    SecondCells,
+}
+
+impl Section {
+    // How many sections come before it.
+    pub fn index(self) -> usize
+        ensures { result ≡ section_of self }
+    {
+        self as usize
+    }
+}
+
 // One rack's state: its clock, its first lane, the cells gathered in its present block and, one per lane, its held value, result and news.
 #[repr(C)]
-#[derive(Clone, Copy)]
+#[derive(Clone, Copy, Debug, Default, PartialEq, Eq)]
 pub struct Rack {
     pub round: u8,
     pub step: u8,
@@ -73,7 +125,7 @@ impl Rack {
             length += 1;
         }
         // "2. if the result is committed and has place L, append its cue;"
-        if (result.mark == 3) & (place == length) {
+        if result.is_committed() & (place == length) {
             logs::store(log, length, value.cue);
             length += 1;
         }
@@ -97,7 +149,7 @@ impl Rack {
 }
 
 // The six kinds of steps.
-#[derive(Clone, Copy)]
+#[derive(Clone, Copy, Debug, PartialEq, Eq)]
 pub enum Kind {
     Offer,
     Answer,
@@ -107,29 +159,31 @@ pub enum Kind {
     SecondRead,
 }
 
-// What a call that works on the racks hands back: 0 or the refusal's number, and the eight racks.
-#[derive(Clone, Copy)]
-pub struct Reply {
-    pub number: u8,
-    pub racks: [Rack; 8],
+// Why a call was refused: the lines of the document's table, each with its number.
+#[derive(Clone, Copy, Debug, PartialEq, Eq)]
+pub enum Refusal {
+    Misfit = 1,
+    Unsound = 2,
+    BadRecord = 3,
+    Finished = 4,
+    Misnamed = 5,
+    NotOffered = 6,
+    DecidedElse = 7,
+    Overfull = 8,
+    NotThere = 9,
+    BadCue = 10,
 }
 
-// What a log query answers.
-#[derive(Clone, Copy)]
-pub enum Entry {
-    Found(Cue),
-    Refused(u8),
-}
+impl From<Refusal> for u8 {
+    ghost from_gives = { λ refusal number. number ≡ number_of refusal };
 
-// What a query for a cue's code answers.
-#[derive(Clone, Copy)]
-pub enum Code {
-    Of(u16),
-    Refused(u8),
+    fn from(refusal: Refusal) -> u8 {
+        refusal as u8
+    }
 }
 
 // A turn record's four bytes.
-#[derive(Clone, Copy)]
+#[derive(Clone, Copy, Debug, PartialEq, Eq)]
 pub struct Turn {
     pub rack: u8,
     pub lane: u8,
@@ -137,10 +191,9 @@ pub struct Turn {
     pub zero: u8,
 }
 
-// What stands at a place in the turn bytes: a whole record and the place behind it, a short last piece and its length, or nothing.
-#[derive(Clone, Copy)]
+// A record in the turn bytes: a whole one and the place behind it, or a short last piece and its length.
+#[derive(Clone, Copy, Debug, PartialEq, Eq)]
 pub enum Piece {
     Whole(Turn, usize),
     Short(usize),
-    End,
 }

@@ -32,14 +32,12 @@ pub fn store(table: &mut [u8], at: usize, c: Cue)
 }
 
 // Whether a record is a zero one.
+#[tactic(auto, unfolding(crate::specs::Record::same_cue))]
 fn zero_at(table: &[u8], at: usize) -> bool
     requires { 2 * at + 2 ≤ length table.now }
     ensures { result ≡ same_cue (entry_at (logs_of table.now) at) no_cue }
 {
-    let c = entry(table, at);
-    let issuer = c.issuer == 0;
-    let number = c.number == 0;
-    issuer & number
+    entry(table, at) == Cue::default()
 }
 
 // "a log's length is the number of its records before the first zero one": of the records from `at` on, at most `most`.
@@ -47,27 +45,12 @@ pub fn length_from(table: &[u8], at: usize, most: usize) -> usize
     requires { 2 * (at + most) ≤ length table.now }
     ensures { result ≡ length_from (logs_of table.now) at most }
 {
-    let mut i: usize = 0;
-    while i < most {
-        let end = zero_at(table, at + i);
-        if end {
+    for i in 0..most {
+        if zero_at(table, at + i) {
             return i;
         }
-        i += 1;
     }
-    i
-}
-
-// 1 if a record's issuer is the rack, else 0.
-fn own_at(table: &[u8], at: usize, rack: u8) -> u8
-    requires { 2 * at + 2 ≤ length table.now }
-    ensures { result ≡ cond (eqb (entry_at (logs_of table.now) at).issuer rack) 1 0 }
-{
-    let c = entry(table, at);
-    if c.issuer == rack {
-        return 1;
-    }
-    0
+    most
 }
 
 // "the count of its own cues in this log": of the `count` records from `start` on, those that the rack issued.
@@ -77,8 +60,9 @@ pub fn own_cues(table: &[u8], start: usize, rack: u8, count: usize) -> u8
 {
     let mut own: u8 = 0;
     for i in 0..count {
-        let one = own_at(table, start + i, rack);
-        own += one;
+        if entry(table, start + i).issuer == rack {
+            own += 1;
+        }
     }
     own
 }
@@ -89,10 +73,7 @@ pub fn last_entry(table: &[u8], start: usize, count: usize) -> Cue
     ensures { result ≡ last_entry (logs_of table.now) start count }
 {
     if count == 0 {
-        return Cue {
-            issuer: 0,
-            number: 0,
-        };
+        return Cue::default();
     }
     entry(table, start + (count - 1))
 }

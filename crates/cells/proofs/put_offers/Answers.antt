@@ -21,7 +21,7 @@ unfolding offers_in
 loop-lane-preserved c =
     let l = c.loop-lane in
     let s = c.put.ensures in
-    (search rules, (c.put.auto.part ∙ l.invariant.1.0, rw (add-one, s, l.invariant.1.1)))
+    (search rules, (c.put.auto.part ∙ l.invariant.1.0, rw (add-one, s, c.offered.ensures, l.invariant.1.1)))
 
 pub returns : goal.returns
 returns c =

@@ -10,11 +10,11 @@ use Rattle.model.proofs.logs.length_from.Goals as goal
 pub loop-i-init : goal.loop-i-init
 loop-i-init c = (omega arith, simp (add-zero, zero-add, sub-zero))
 
-pub returns-then-end : goal.returns-then-end
-returns-then-end c =
+pub returns-then-zero_at : goal.returns-then-zero_at
+returns-then-zero_at c =
     let a = c.args in
     let i = c.loop-i.i in
-    let none = length_zero (logs_of a.table.now) (a.at + i) (a.most - i) (sym c.zero_at-end.ensures ∙ c.if-end.true) in
+    let none = length_zero (logs_of a.table.now) (a.at + i) (a.most - i) (sym c.zero_at.ensures ∙ c.if-zero_at.true) in
     omega (arith, c.loop-i.invariant.1)
 
 pub loop-i-preserved : goal.loop-i-preserved
@@ -22,7 +22,7 @@ loop-i-preserved c =
     let a = c.args in
     let one =
     length_next (logs_of a.table.now) a.at c.loop-i.i a.most c.loop-i-test.true
-    (sym c.zero_at-end.ensures ∙ c.if-end.false)
+    (sym c.zero_at.ensures ∙ c.if-zero_at.false)
     in
     (omega arith, omega (arith, c.loop-i.invariant.1))
 
