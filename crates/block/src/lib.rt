@@ -1,60 +1,47 @@
 // What a rack makes of the cells that it has read: its second cell, its result and its news in a lane.
 #![tactic(auto)]
 
-ghost use Rattle.std.specs.Prelude.{◌≡◌, ◌≤◌};
-ghost use Rattle.model.specs.Block.{equals_own, all_equal_own, higher, greatest, second_cell};
-ghost use Rattle.model.specs.Block.{backs_own, all_back_own, sooner, first_committed, adopted_value, result_of};
-ghost use Rattle.model.specs.Block.{newer, newest, news};
+ghost use Rattle.std.specs.Prelude.{◌≡◌, ◌≤◌, take};
+ghost use Rattle.std.specs.List.{list_all, fold, find};
+ghost use Rattle.model.specs.Record.{is_committed};
+ghost use Rattle.model.specs.Block.{equals_own, higher, second_cell, backs_own, adopted_value, result_of, newer, news};
 
 use model::{Cell, Value};
 
 // A first cell that is empty or "equals it".
+#[tactic(auto, unfolding(model::specs::Block::equals_own, model::specs::Record::same_value, model::specs::Record::same_cue))]
 fn equals_own(own: Value, c: Cell) -> bool
     ensures { result ≡ equals_own own c }
 {
-    let empty = c.mark == 0;
-    let v = c.value;
-    let same = cells::same_value(v, own);
-    empty | same
+    c.is_empty() || c.value == own
 }
 
 // "every non-empty first cell read equals it"
 fn all_equal_own(firsts: [Cell; 8], own: Value, n: usize) -> bool
     requires { n ≤ 8 }
-    ensures { result ≡ all_equal_own firsts own n }
+    ensures { result ≡ list_all (equals_own own) (take n firsts) }
 {
-    let mut all = true;
-    for i in 0..n {
-        let c = firsts[i];
-        let equal = equals_own(own, c);
-        all = all & equal;
-    }
-    all
+    firsts[..n].iter().all(|c| equals_own(own, *c))
 }
 
 // What is kept of two: the cell's value if it has a greater place.
+#[tactic(auto, unfolding(model::specs::Block::higher))]
 fn higher(best: Value, c: Cell) -> Value
     ensures { result ≡ higher best c }
 {
-    let full = c.mark != 0;
-    let more = best.place < c.value.place;
-    if full & more {
-        return c.value;
+    if !c.is_empty() && best.place < c.value.place {
+        c.value
+    } else {
+        best
     }
-    best
 }
 
 // "the value of greatest place read, its own if it ties, else the lowest rack's"
 fn greatest(firsts: [Cell; 8], own: Value, n: usize) -> Value
     requires { n ≤ 8 }
-    ensures { result ≡ greatest firsts own n }
+    ensures { result ≡ fold higher own (take n firsts) }
 {
-    let mut best = own;
-    for i in 0..n {
-        let c = firsts[i];
-        best = higher(best, c);
-    }
-    best
+    firsts[..n].iter().fold(own, |best, c| higher(best, *c))
 }
 
 // "committed with its own value if every non-empty first cell read equals it; else adopted, with the value of greatest place read"
@@ -62,68 +49,35 @@ pub fn second_cell(firsts: [Cell; 8], own: Value, n: usize) -> Cell
     requires { n ≤ 8 }
     ensures { result ≡ second_cell firsts own n }
 {
-    let all = all_equal_own(firsts, own, n);
-    let best = greatest(firsts, own, n);
-    if all {
-        return Cell {
-            mark: 3,
-            value: own,
-        };
-    }
-    Cell {
-        mark: 2,
-        value: best,
+    if all_equal_own(firsts, own, n) {
+        Cell::committed(own)
+    } else {
+        Cell::adopted(greatest(firsts, own, n))
     }
 }
 
 // A second cell that is empty, or "is marked committed and equals its own".
+#[tactic(auto, unfolding(model::specs::Block::backs_own, model::specs::Record::same_value, model::specs::Record::same_cue))]
 fn backs_own(own: Value, c: Cell) -> bool
     ensures { result ≡ backs_own own c }
 {
-    let empty = c.mark == 0;
-    let committed = c.mark == 3;
-    let v = c.value;
-    let equal = cells::same_value(v, own);
-    empty | (committed & equal)
+    c.is_empty() || (c.is_committed() && c.value == own)
 }
 
 // "every non-empty second cell read is marked committed and equals its own"
 fn all_back_own(seconds: [Cell; 8], own: Value, n: usize) -> bool
     requires { n ≤ 8 }
-    ensures { result ≡ all_back_own seconds own n }
+    ensures { result ≡ list_all (backs_own own) (take n seconds) }
 {
-    let mut all = true;
-    for i in 0..n {
-        let c = seconds[i];
-        let backs = backs_own(own, c);
-        all = all & backs;
-    }
-    all
+    seconds[..n].iter().all(|c| backs_own(own, *c))
 }
 
-// What is kept of two: the cell if it is committed and none was found before.
-fn sooner(found: Cell, c: Cell) -> Cell
-    ensures { result ≡ sooner found c }
-{
-    let none = found.mark == 0;
-    let committed = c.mark == 3;
-    if none & committed {
-        return c;
-    }
-    found
-}
-
-// "the first committed cell", empty if none was read.
-fn first_committed(seconds: [Cell; 8], n: usize) -> Cell
+// "the first committed cell"
+fn first_committed(seconds: [Cell; 8], n: usize) -> Option<Cell>
     requires { n ≤ 8 }
-    ensures { result ≡ first_committed seconds n }
+    ensures { result ≡ find is_committed (take n seconds) }
 {
-    let mut found = cells::no_cell();
-    for i in 0..n {
-        let c = seconds[i];
-        found = sooner(found, c);
-    }
-    found
+    seconds[..n].iter().find(|c| c.is_committed()).copied()
 }
 
 // "the first committed cell's value if one was read, else the value in its own second cell"
@@ -131,11 +85,10 @@ fn adopted_value(seconds: [Cell; 8], second: Value, n: usize) -> Value
     requires { n ≤ 8 }
     ensures { result ≡ adopted_value seconds second n }
 {
-    let found = first_committed(seconds, n);
-    if found.mark == 0 {
-        return second;
+    match first_committed(seconds, n) {
+        Some(c) => c.value,
+        None => second,
     }
-    found.value
 }
 
 // "Committed: every non-empty second cell read is marked committed and equals its own. Otherwise adopted"
@@ -143,44 +96,31 @@ pub fn result(seconds: [Cell; 8], own: Value, second: Value, n: usize) -> Cell
     requires { n ≤ 8 }
     ensures { result ≡ result_of seconds own second n }
 {
-    let all = all_back_own(seconds, own, n);
-    let adopted = adopted_value(seconds, second, n);
-    if all {
-        return Cell {
-            mark: 3,
-            value: own,
-        };
-    }
-    Cell {
-        mark: 2,
-        value: adopted,
+    if all_back_own(seconds, own, n) {
+        Cell::committed(own)
+    } else {
+        Cell::adopted(adopted_value(seconds, second, n))
     }
 }
 
 // What is kept of two: the cell if it is not empty and has a greater place, or is the first that is not.
+#[tactic(auto, unfolding(model::specs::Block::newer))]
 fn newer(best: Cell, c: Cell) -> Cell
     ensures { result ≡ newer best c }
 {
-    let full = c.mark != 0;
-    let none = best.mark == 0;
-    let more = best.value.place < c.value.place;
-    if full & (none | more) {
-        return c;
+    if !c.is_empty() && (best.is_empty() || best.value.place < c.value.place) {
+        c
+    } else {
+        best
     }
-    best
 }
 
 // The newest of these cells and one read before them, "the earliest on a tie".
 fn newest(cells: [Cell; 8], before: Cell, n: usize) -> Cell
     requires { n ≤ 8 }
-    ensures { result ≡ newest cells before n }
+    ensures { result ≡ fold newer before (take n cells) }
 {
-    let mut best = before;
-    for i in 0..n {
-        let c = cells[i];
-        best = newer(best, c);
-    }
-    best
+    cells[..n].iter().fold(before, |best, c| newer(best, *c))
 }
 
 // "the value of greatest place among all non-empty cells read, first cells before second, the earliest on a tie"
@@ -188,8 +128,7 @@ pub fn news(firsts: [Cell; 8], seconds: [Cell; 8], n: usize) -> Value
     requires { n ≤ 8 }
     ensures { result ≡ news firsts seconds n }
 {
-    let none = cells::no_cell();
-    let first = newest(firsts, none, n);
+    let first = newest(firsts, Cell::default(), n);
     let last = newest(seconds, first, n);
     last.value
 }

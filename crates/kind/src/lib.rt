@@ -1,7 +1,7 @@
 // Which of the six kinds a step is, and where a step stands in its round.
 #![tactic(auto)]
 
-ghost use Rattle.std.specs.Prelude.{◌≡◌, ◌-◌, ◌≤◌, ◌<◌, min};
+ghost use Rattle.std.specs.Prelude.{◌≡◌, ◌≤◌, ◌<◌};
 ghost use Rattle.model.specs.Size.{block_steps, round_steps};
 ghost use Rattle.model.specs.Kind.{kind_of, block_at, place_at, lane_of, lane_at, block_of, steps_in, firsts_read, seconds_read};
 ghost use Rattle.model.specs.Step.{is_last};
@@ -9,27 +9,8 @@ ghost use Rattle.kind.specs.Stretch.{stretch};
 
 use model::{Kind, Rack, Size};
 
-// a - b, or 0 where b is greater.
-fn less(a: usize, b: usize) -> usize
-    ensures { result ≡ a - b }
-{
-    if a < b {
-        return 0;
-    }
-    a - b
-}
-
-// The smaller of the two.
-fn least(a: usize, b: usize) -> usize
-    ensures { result ≡ min a b }
-{
-    if a < b {
-        return a;
-    }
-    b
-}
-
 // "a block of 2n + 2 steps"
+#[tactic(auto, unfolding(model::specs::Size::block_steps))]
 pub fn block_steps(size: Size) -> usize
     requires { size.racks ≤ 8 }
     ensures { result ≡ block_steps size }
@@ -38,6 +19,7 @@ pub fn block_steps(size: Size) -> usize
 }
 
 // "A round of one rack is 2 + k(2n + 2) steps."
+#[tactic(auto, using(crate::proofs::Places::round_most), unfolding(model::specs::Size::round_steps))]
 pub fn round_steps(size: Size) -> usize
     requires { (size.racks ≤ 8) × (size.lanes ≤ 4) }
     ensures { result ≡ round_steps size }
@@ -46,22 +28,25 @@ pub fn round_steps(size: Size) -> usize
 }
 
 // The block that a step is in, from 0.
+#[tactic(auto, unfolding(model::specs::Size::block_steps, model::specs::Kind::block_at))]
 pub fn block_at(size: Size, step: usize) -> usize
     requires { size.racks ≤ 8 }
     ensures { result ≡ block_at size step }
 {
-    less(step, 2) / block_steps(size)
+    step.saturating_sub(2) / block_steps(size)
 }
 
 // The step's place in its block, from 0.
+#[tactic(auto, unfolding(model::specs::Size::block_steps, model::specs::Kind::place_at))]
 pub fn place_at(size: Size, step: usize) -> usize
     requires { size.racks ≤ 8 }
     ensures { result ≡ place_at size step }
 {
-    less(step, 2) % block_steps(size)
+    step.saturating_sub(2) % block_steps(size)
 }
 
 // The step as it would be numbered with eight racks and in the first block: so the ranges below have constant bounds.
+#[tactic(auto, using(model::proofs::Place::place_below, crate::proofs::Places::steps_most), unfolding(crate::specs::Stretch::stretch))]
 fn stretched(size: Size, step: usize) -> usize
     requires { size.racks ≤ 8 }
     ensures { result ≡ stretch size step }
@@ -82,8 +67,7 @@ pub fn kind_of(size: Size, step: usize) -> Kind
     requires { size.racks ≤ 8 }
     ensures { result ≡ kind_of size step }
 {
-    let z = stretched(size, step);
-    match z {
+    match stretched(size, step) {
         0 => Kind::Offer,
         1 => Kind::Answer,
         2 => Kind::FirstWrite,
@@ -94,6 +78,7 @@ pub fn kind_of(size: Size, step: usize) -> Kind
 }
 
 // The lane of a block: the first lane's comes first, the others follow in rising order.
+#[tactic(auto, unfolding(model::specs::Kind::lane_of))]
 pub fn lane_of(first: usize, block: usize) -> usize
     ensures { result ≡ lane_of first block }
 {
@@ -111,13 +96,11 @@ pub fn lane_at(size: Size, r: Rack) -> usize
     requires { size.racks ≤ 8 }
     ensures { result ≡ lane_at size r }
 {
-    let first = r.first as usize;
-    let step = r.step as usize;
-    let block = block_at(size, step);
-    lane_of(first, block)
+    lane_of(r.first as usize, block_at(size, r.step as usize))
 }
 
 // The block of a lane.
+#[tactic(auto, unfolding(model::specs::Kind::block_of))]
 pub fn block_of(first: usize, lane: usize) -> usize
     ensures { result ≡ block_of first lane }
 {
@@ -131,46 +114,41 @@ pub fn block_of(first: usize, lane: usize) -> usize
 }
 
 // How many steps of a lane's block a rack has taken in its present round, from none to all.
+#[tactic(auto, unfolding(model::specs::Kind::steps_in))]
 pub fn steps_in(size: Size, r: Rack, lane: usize) -> usize
     requires { (size.racks ≤ 8) × (lane < 4) }
     ensures { result ≡ steps_in size r lane }
 {
-    let first = r.first as usize;
-    let step = r.step as usize;
     let whole = block_steps(size);
-    let start = block_of(first, lane) * whole;
-    let after = less(less(step, 2), start);
-    least(after, whole)
+    let start = block_of(r.first as usize, lane) * whole;
+    let after = (r.step as usize).saturating_sub(2).saturating_sub(start);
+    after.min(whole)
 }
 
 // How many first cells a rack has read in its present block.
+#[tactic(auto, unfolding(model::specs::Kind::firsts_read))]
 pub fn firsts_read(size: Size, r: Rack) -> usize
     requires { size.racks ≤ 8 }
     ensures { result ≡ firsts_read size r }
 {
-    let step = r.step as usize;
-    let place = place_at(size, step);
-    let after = less(place, 1);
-    let n = size.racks;
-    least(after, n)
+    let after = place_at(size, r.step as usize).saturating_sub(1);
+    after.min(size.racks)
 }
 
 // How many second cells a rack has read in its present block.
+#[tactic(auto, unfolding(model::specs::Kind::seconds_read))]
 pub fn seconds_read(size: Size, r: Rack) -> usize
     requires { size.racks ≤ 8 }
     ensures { result ≡ seconds_read size r }
 {
-    let step = r.step as usize;
-    let place = place_at(size, step);
-    less(place, size.racks + 2)
+    place_at(size, r.step as usize).saturating_sub(size.racks + 2)
 }
 
 // Whether a rack's step is its round's last.
+#[tactic(auto, unfolding(model::specs::Step::is_last))]
 pub fn is_last(size: Size, r: Rack) -> bool
     requires { (size.racks ≤ 8) × (size.lanes ≤ 4) }
     ensures { result ≡ is_last size r }
 {
-    let step = r.step as usize;
-    let steps = round_steps(size);
-    step + 1 == steps
+    r.step as usize + 1 == round_steps(size)
 }

@@ -1,4 +1,5 @@
 pub mod Cases
 pub mod Below
+pub mod Fold
 pub mod Index
 pub mod Runs

@@ -6,6 +6,7 @@ use mathlib.Core.Bool.{Bool, true, false, cond, ◌&&◌}
 use Prim.Native.Nat.{ℕ, suc, ◌+◌, ◌≤◌, ◌<◌}
 use native.Mathlib.Omega.{arith}
 use lib.Dec.{eqb}
+use mir.Val.{bool_byte}
 use Rattle.model.specs.declared.Size.{Size}
 use Rattle.model.specs.declared.Cue.{Cue}
 use Rattle.model.specs.declared.Value.{Value}
@@ -47,9 +48,10 @@ append_other : (due : Bool) (log : Log) (c : Cue) (i : ℕ) → (due ≡ true �
 append_other true log c i away = load_other log.table (log.start + log.length) c i (away refl)
 append_other false log c i away = refl
 
-pub grown_most : (due : Bool) (l : ℕ) → grown_if due l ≤ suc l
-grown_most true l = omega arith
-grown_most false l = omega arith
+-- the code adds the condition as a number
+pub grown_by : (due : Bool) (l : ℕ) → l + bool_byte due ≡ grown_if due l
+grown_by true l = omega arith
+grown_by false l = omega arith
 
 -- if what an append leaves is at most so much, there was less before
 grown_room : (due : Bool) (l most : ℕ) → grown_if due l ≤ most → due ≡ true → l < most

@@ -4,7 +4,7 @@
 ghost use Rattle.std.specs.Prelude.{◌≡◌, true, ◌+◌, ◌*◌, ◌≤◌, ◌<◌, length};
 ghost use Rattle.model.specs.InUse.{logs_of};
 ghost use Rattle.model.specs.Settle.{settled_log, settle_lanes, too_long};
-ghost use Rattle.settle.specs.Fits.{grown_if, log_at, lane_fits};
+ghost use Rattle.settle.specs.Fits.{log_at, lane_fits};
 ghost use Rattle.settle.specs.Lent.{Room, Lent, LanesLent};
 
 use model::{Cell, Rack, Size, Value, logs};
@@ -14,25 +14,13 @@ pub fn settle_lanes(logs: &mut [u8], size: Size, rack: usize, r: Rack) -> Rack
     requires { LanesLent size logs.old rack r }
     ensures { record { logs = logs_of logs.new; rack = result } ≡ settle_lanes size rack (logs_of logs.old) r size.lanes }
 {
-    let k = size.lanes;
     let mut q = r;
-    for lane in 0..k {
+    for lane in 0..size.lanes {
         let a = 2 * logs::log_start(size, rack, lane);
         let e = a + 2 * size.rounds;
         q = q.settle(&mut logs[a..e], lane, rack as u8);
     }
     q
-}
-
-// L, one greater if a cue is appended.
-fn grown_if(count: usize, due: bool) -> usize
-    requires { count ≤ 65 }
-    ensures { result ≡ grown_if due count }
-{
-    if due {
-        return count + 1;
-    }
-    count
 }
 
 // The L that rules 1 and 2 would leave.
@@ -41,11 +29,10 @@ fn settled_length(logs: &[u8], start: usize, rounds: usize, res: Cell, news: Val
     ensures { result ≡ (settled_log (log_at (logs_of logs.now) start rounds) res news).length }
 {
     let before = logs::length_from(logs, start, rounds);
-    let missed = (news.place as usize) == before + 1;
-    let between = grown_if(before, missed);
-    let committed = res.mark == 3;
-    let here = (res.value.place as usize) == between;
-    grown_if(between, committed & here)
+    let missed = news.place as usize == before + 1;
+    let between = before + usize::from(missed);
+    let due = res.is_committed() & (res.value.place as usize == between);
+    between + usize::from(due)
 }
 
 // Settling would leave a lane's log no longer than R.
@@ -65,11 +52,5 @@ pub fn too_long(logs: &[u8], size: Size, rack: usize, r: Rack) -> bool
     requires { Lent size logs.now rack }
     ensures { result ≡ too_long size rack (logs_of logs.now) r }
 {
-    let k = size.lanes;
-    let mut all = true;
-    for lane in 0..k {
-        let fits = lane_fits(logs, size, rack, r, lane);
-        all = all & fits;
-    }
-    !all
+    !(0..size.lanes).all(|lane| lane_fits(logs, size, rack, r, lane))
 }

@@ -11,16 +11,17 @@ ghost use Rattle.model.specs.Turn.{refusal_of};
 ghost use Rattle.step.specs.After.{offering, first_writing, second_writing, answering, second_reading};
 ghost use Rattle.step.specs.Ready.{Ready, InRound, AtCells, InBlock, AtDecisions, Decided, Settling};
 
-use model::{Cell, Kind, Rack, Size, Value};
+use model::{Cell, Kind, Rack, Section, Size, Value};
 
 // The rack one step on.
 fn advanced(r: Rack) -> Rack
     requires { r.step < 255 }
     ensures { result ≡ advanced r }
 {
-    let mut q = r;
-    q.step = r.step + 1;
-    q
+    Rack {
+        step: r.step + 1,
+        ..r
+    }
 }
 
 // Where the decision of the rack's round and a lane stands: "by round and lane".
@@ -57,9 +58,10 @@ fn answer(decisions: &mut [u8], size: Size, r: Rack, lane: u8, source: u8) -> Ra
 {
     let i = decision_index(size, r, lane as usize);
     decisions[i] = source;
-    let mut q = advanced(r);
-    q.first = lane;
-    q
+    Rack {
+        first: lane,
+        ..advanced(r)
+    }
 }
 
 // "The value offered by q at m is what this rack proposes in m"; in each other lane "the rack proposes its held value".
@@ -71,7 +73,7 @@ fn proposal(cells: &[u8], decisions: &[u8], size: Size, rack: usize, r: Rack) ->
     let first = r.first as usize;
     if lane == first {
         let source = decision_at(decisions, size, r, lane) as usize;
-        let c = cells::read(cells, size, 0, r.round as usize, lane, source);
+        let c = cells::read(cells, size, Section::Offers, r.round as usize, lane, source);
         return c.value;
     }
     r.held[lane]
@@ -85,11 +87,15 @@ fn first_write(cells: &mut [u8], decisions: &[u8], size: Size, rack: usize, r: R
 {
     let own = proposal(cells, decisions, size, rack, r);
     let lane = kind::lane_at(size, r);
-    let c = Cell {
-        mark: 1,
-        value: own,
-    };
-    cells::write(cells, size, 1, r.round as usize, lane, rack, c);
+    cells::write(
+        cells,
+        size,
+        Section::FirstCells,
+        r.round as usize,
+        lane,
+        rack,
+        Cell::offered(own),
+    );
     advanced(r)
 }
 
@@ -100,7 +106,14 @@ fn first_read(cells: &[u8], size: Size, rack: usize, r: Rack) -> Rack
 {
     let other = kind::place_at(size, r.step as usize) - 1;
     let lane = kind::lane_at(size, r);
-    let c = cells::read(cells, size, 1, r.round as usize, lane, other);
+    let c = cells::read(
+        cells,
+        size,
+        Section::FirstCells,
+        r.round as usize,
+        lane,
+        other,
+    );
     let mut q = advanced(r);
     q.firsts[other] = c;
     q
@@ -112,11 +125,24 @@ fn second_write(cells: &mut [u8], size: Size, rack: usize, r: Rack) -> Rack
     ensures { record { cells = cells_of cells.new; rack = result } ≡ second_writing size (cells_of cells.old) rack r }
 {
     let lane = kind::lane_at(size, r);
-    let first = cells::read(cells, size, 1, r.round as usize, lane, rack);
-    let own = first.value;
-    let firsts = r.firsts;
-    let c = block::second_cell(firsts, own, size.racks);
-    cells::write(cells, size, 2, r.round as usize, lane, rack, c);
+    let first = cells::read(
+        cells,
+        size,
+        Section::FirstCells,
+        r.round as usize,
+        lane,
+        rack,
+    );
+    let c = block::second_cell(r.firsts, first.value, size.racks);
+    cells::write(
+        cells,
+        size,
+        Section::SecondCells,
+        r.round as usize,
+        lane,
+        rack,
+        c,
+    );
     advanced(r)
 }
 
@@ -127,7 +153,14 @@ fn second_gathered(cells: &[u8], size: Size, rack: usize, r: Rack) -> Rack
 {
     let other = kind::place_at(size, r.step as usize) - (size.racks + 2);
     let lane = kind::lane_at(size, r);
-    let c = cells::read(cells, size, 2, r.round as usize, lane, other);
+    let c = cells::read(
+        cells,
+        size,
+        Section::SecondCells,
+        r.round as usize,
+        lane,
+        other,
+    );
     let mut q = advanced(r);
     q.seconds[other] = c;
     q
@@ -139,19 +172,30 @@ fn block_ended(cells: &[u8], size: Size, rack: usize, r: Rack, gathered: Rack) -
     ensures { result ≡ block_ended size (cells_of cells.now) rack r gathered }
 {
     let lane = kind::lane_at(size, r);
-    let first = cells::read(cells, size, 1, r.round as usize, lane, rack);
-    let second = cells::read(cells, size, 2, r.round as usize, lane, rack);
-    let own = first.value;
-    let value = second.value;
-    let firsts = gathered.firsts;
-    let seconds = gathered.seconds;
-    let result = block::result(seconds, own, value, size.racks);
-    let news = block::news(firsts, seconds, size.racks);
-    let none = cells::no_cell();
-    let empty = [none; 8];
-    let mut q = gathered;
-    q.firsts = empty;
-    q.seconds = empty;
+    let first = cells::read(
+        cells,
+        size,
+        Section::FirstCells,
+        r.round as usize,
+        lane,
+        rack,
+    );
+    let second = cells::read(
+        cells,
+        size,
+        Section::SecondCells,
+        r.round as usize,
+        lane,
+        rack,
+    );
+    let result = block::result(gathered.seconds, first.value, second.value, size.racks);
+    let news = block::news(gathered.firsts, gathered.seconds, size.racks);
+    let none = Cell::default();
+    let mut q = Rack {
+        firsts: [none; 8],
+        seconds: [none; 8],
+        ..gathered
+    };
     q.results[lane] = result;
     q.news[lane] = news;
     q
@@ -175,17 +219,14 @@ fn round_ended(r: Rack) -> Rack
     requires { r.round < 255 }
     ensures { result ≡ ending_round r }
 {
-    let none = cells::no_cell();
-    let nothing = cells::no_value();
-    let results = [none; 4];
-    let news = [nothing; 4];
-    let mut q = r;
-    q.round = r.round + 1;
-    q.step = 0;
-    q.first = 255;
-    q.results = results;
-    q.news = news;
-    q
+    Rack {
+        round: r.round + 1,
+        step: 0,
+        first: 255,
+        results: [Cell::default(); 4],
+        news: [Value::default(); 4],
+        ..r
+    }
 }
 
 // The read of a second cell: "The round's last step also settles every lane."
@@ -195,8 +236,7 @@ fn second_read(cells: &[u8], logs: &mut [u8], size: Size, rack: usize, r: Rack) 
         ≡ second_reading size (cells_of cells.now) rack r (logs_of logs.old) }
 {
     let read = after_second_read(cells, size, rack, r);
-    let last = kind::is_last(size, r);
-    if !last {
+    if !kind::is_last(size, r) {
         return read;
     }
     let settled = settle::settle_lanes(logs, size, rack, read);
@@ -219,8 +259,7 @@ pub fn act(
     ensures { after_of cells.new logs.new decisions.new result
         ≡ stepped size (tables_of cells.old logs.old decisions.old) rack r lane source }
 {
-    let next = kind::kind_of(size, r.step as usize);
-    match next {
+    match kind::kind_of(size, r.step as usize) {
         Kind::Offer => offer(cells, size, rack, r),
         Kind::Answer => answer(decisions, size, r, lane, source),
         Kind::FirstWrite => first_write(cells, decisions, size, rack, r),

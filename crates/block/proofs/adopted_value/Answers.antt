@@ -1,12 +1,16 @@
--- The cell tested is the first committed one.
-use borrow.Author.Tests.{eq-eqb, ne_eqb}
-use Rattle.model.specs.Block.{adopted_value}
+-- The cell found is the first committed one.
+use Rattle.std.proofs.Common.{rules, ◌≡◌, sym, ◌∙◌, length}
+use Rattle.block.proofs.Read.{adopted_some, adopted_none}
 use Rattle.block.proofs.adopted_value.Goals as goal
 
-pub returns-then-found-eq0 : goal.returns-then-found-eq0
-unfolding adopted_value
-returns-then-found-eq0 c = rw (← c.first_committed-found.ensures, eq-eqb _ _ c.if-found-eq0.true)
+pub returns-in-Some : goal.returns-in-Some
+returns-in-Some c =
+    let a = c.args in
+    let eight : length a.seconds ≡ 8 = search rules in
+    sym (adopted_some a.seconds a.n eight c.requires a.second c.in-Some.c (sym c.first_committed.ensures ∙ c.in-Some.is))
 
-pub returns : goal.returns
-unfolding adopted_value
-returns c = rw (← c.first_committed-found.ensures, ne_eqb _ _ c.if-found-eq0.false)
+pub returns-in-None : goal.returns-in-None
+returns-in-None c =
+    let a = c.args in
+    let eight : length a.seconds ≡ 8 = search rules in
+    sym (adopted_none a.seconds a.n eight c.requires a.second (sym c.first_committed.ensures ∙ c.in-None.is))

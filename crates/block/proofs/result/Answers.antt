@@ -1,13 +1,19 @@
--- The test and the value to adopt are the definition's own.
-use mathlib.Core.Path.{sym, ◌∙◌}
+-- The test and the value are the definition's, over the cells read.
+use Rattle.std.proofs.Common.{rules, ◌≡◌, length}
 use Rattle.model.specs.Block.{result_of}
-use Rattle.block.proofs.Choice.{chosen, other}
+use Rattle.block.proofs.Read.{all_back_own_is}
 use Rattle.block.proofs.result.Goals as goal
 
-pub returns-then-all : goal.returns-then-all
+pub returns-then-all_back_own : goal.returns-then-all_back_own
 unfolding result_of
-returns-then-all c = chosen _ _ (sym c.all_back_own-all.ensures ∙ c.if-all.true)
+returns-then-all_back_own c =
+    let a = c.args in
+    let eight : length a.seconds ≡ 8 = search rules in
+    rw (c.committed.ensures, ← all_back_own_is a.seconds a.n eight c.requires a.own, ← c.all_back_own.ensures, c.if-all_back_own.true)
 
-pub returns : goal.returns
+pub returns-else-all_back_own : goal.returns-else-all_back_own
 unfolding result_of
-returns c = rw c.adopted_value-adopted.ensures (other _ _ (sym c.all_back_own-all.ensures ∙ c.if-all.false))
+returns-else-all_back_own c =
+    let a = c.args in
+    let eight : length a.seconds ≡ 8 = search rules in
+    rw (c.adopted.ensures, c.adopted_value.ensures, ← all_back_own_is a.seconds a.n eight c.requires a.own, ← c.all_back_own.ensures, c.if-all_back_own.false)

@@ -1,13 +1,26 @@
--- The test and the value to adopt are the definition's own.
-use mathlib.Core.Path.{sym, ◌∙◌}
+-- The test and the value are the definition's, over the cells read.
+use Rattle.std.proofs.Common.{rules, ◌≡◌, length}
 use Rattle.model.specs.Block.{second_cell}
-use Rattle.block.proofs.Choice.{chosen, other}
+use Rattle.block.proofs.Read.{all_equal_own_is, greatest_is}
 use Rattle.block.proofs.second_cell.Goals as goal
 
-pub returns-then-all : goal.returns-then-all
+pub returns-then-all_equal_own : goal.returns-then-all_equal_own
 unfolding second_cell
-returns-then-all c = chosen _ _ (sym c.all_equal_own-all.ensures ∙ c.if-all.true)
+returns-then-all_equal_own c =
+    let a = c.args in
+    let eight : length a.firsts ≡ 8 = search rules in
+    rw (c.committed.ensures, ← all_equal_own_is a.firsts a.n eight c.requires a.own, ← c.all_equal_own.ensures, c.if-all_equal_own.true)
 
-pub returns : goal.returns
+pub returns-else-all_equal_own : goal.returns-else-all_equal_own
 unfolding second_cell
-returns c = rw c.greatest-best.ensures (other _ _ (sym c.all_equal_own-all.ensures ∙ c.if-all.false))
+returns-else-all_equal_own c =
+    let a = c.args in
+    let eight : length a.firsts ≡ 8 = search rules in
+    rw (
+      c.adopted.ensures,
+      c.greatest.ensures,
+      ← greatest_is a.firsts a.n eight c.requires a.own,
+      ← all_equal_own_is a.firsts a.n eight c.requires a.own,
+      ← c.all_equal_own.ensures,
+      c.if-all_equal_own.false,
+    )

@@ -1,8 +1,7 @@
--- The calls are the text of `steps_in`; the start of a block is at most 4 blocks on.
+-- The start of a block is at most 4 blocks on.
 use Rattle.laws.proofs.Index.{product_le}
 use Rattle.kind.proofs.Places.{block_of_most, steps_most}
 use native.Mathlib.Omega.{arith}
-use Rattle.model.specs.Kind.{steps_in}
 use Rattle.kind.proofs.steps_in.Goals as goal
 
 pub overflow_mul-start : goal.overflow_mul-start
@@ -14,7 +13,3 @@ overflow_mul-start c =
     (rw c.block_steps-whole.ensures (steps_most c.args.size c.requires.0))
     in
     omega arith
-
-pub returns : goal.returns
-unfolding steps_in
-returns c = rw (c.least.ensures, c.less-after.ensures, c.less.ensures, c.block_of.ensures, c.block_steps-whole.ensures)

@@ -1,13 +1,7 @@
 -- At an answer step the cell is there, since test 5 did not refuse.
 use native.Mathlib.Omega.{arith}
-use borrow.Author.Tests.{eq-eqb, ne_eqb}
-use Rattle.model.specs.Turn.{not_offered}
 use Rattle.step.proofs.Ready.{named}
 use Rattle.refusal.proofs.not_offered.Goals as goal
-
-pub returns-then-r-ne1 : goal.returns-then-r-ne1
-unfolding not_offered
-returns-then-r-ne1 c = rw (ne_eqb _ _ c.if-r-ne1.true)
 
 pub read-c-requires : goal.read-c-requires
 read-c-requires c =
@@ -25,7 +19,3 @@ read-c-requires c =
             rack_there = w.1;
           };
     }
-
-pub returns : goal.returns
-unfolding not_offered
-returns c = rw (c.read-c.ensures, eq-eqb _ _ c.if-r-ne1.false)

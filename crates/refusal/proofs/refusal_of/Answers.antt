@@ -9,60 +9,60 @@ use Rattle.step.proofs.Arms.{in_round, at_cells}
 use Rattle.refusal.specs.Tests.{Named}
 use Rattle.refusal.proofs.Last.{overfull_in_is}
 use Rattle.refusal.proofs.refusal_of.Goals as goal
-use Rattle.refusal.proofs.refusal_of.Goals.{Else-absent, Else-ended, Else-taken, Else-wrong}
+use Rattle.refusal.proofs.refusal_of.Goals.{Else-not_offered, Else-finished, Else-decided_else, Else-misnamed}
 
-past_4 : (c : Else-ended) → finished c.args.size c.args.r ≡ false
-past_4 c = sym c.finished-ended.ensures ∙ c.if-ended.false
+past_4 : (c : Else-finished) → finished c.args.size c.args.r ≡ false
+past_4 c = sym c.finished.ensures ∙ c.if-finished.false
 
-past_5 : (c : Else-wrong) → misnamed c.args.size c.args.r c.args.lane c.args.source ≡ false
-past_5 c = sym c.misnamed-wrong.ensures ∙ c.if-wrong.false
+past_5 : (c : Else-misnamed) → misnamed c.args.size c.args.r c.args.lane c.args.source ≡ false
+past_5 c = sym c.misnamed.ensures ∙ c.if-misnamed.false
 
-past_6 : (c : Else-absent)
+past_6 : (c : Else-not_offered)
     → not_offered c.args.size c.args.r (cells_of c.args.cells.now) c.args.lane c.args.source ≡ false
-past_6 c = sym c.not_offered-absent.ensures ∙ c.if-absent.false
+past_6 c = sym c.not_offered.ensures ∙ c.if-not_offered.false
 
-past_7 : (c : Else-taken)
+past_7 : (c : Else-decided_else)
     → decided_else c.args.size c.args.r c.args.decisions.now c.args.lane c.args.source ≡ false
-past_7 c = sym c.decided_else-taken.ensures ∙ c.if-taken.false
+past_7 c = sym c.decided_else.ensures ∙ c.if-decided_else.false
 
-ready_4 : (c : Else-ended)
+ready_4 : (c : Else-finished)
     → Ready c.args.size (tables_of c.args.cells.now c.args.logs.now c.args.decisions.now) c.args.rack c.args.r
 ready_4 c = ready _ _ _ _ c.requires (past_4 c)
 
-named_5 : (c : Else-wrong) → Named c.args.size c.args.r c.args.lane c.args.source
-named_5 c = record { round = in_round (ready _ _ _ _ c.requires (sym c.finished-ended.ensures ∙ c.if-ended.false)); well = past_5 c }
+named_5 : (c : Else-misnamed) → Named c.args.size c.args.r c.args.lane c.args.source
+named_5 c = record { round = in_round (ready _ _ _ _ c.requires (sym c.finished.ensures ∙ c.if-finished.false)); well = past_5 c }
 
-pub returns-then-ended : goal.returns-then-ended
+pub returns-then-finished : goal.returns-then-finished
 unfolding refusal_of
-returns-then-ended c = rw (sym c.finished-ended.ensures ∙ c.if-ended.true)
+returns-then-finished c = rw (sym c.finished.ensures ∙ c.if-finished.true)
 
-pub returns-then-wrong : goal.returns-then-wrong
+pub returns-then-misnamed : goal.returns-then-misnamed
 unfolding refusal_of
-returns-then-wrong c = rw (past_4 (goal.at.returns-then-wrong c).Else-ended, sym c.misnamed-wrong.ensures ∙ c.if-wrong.true)
+returns-then-misnamed c = rw (past_4 (goal.at.returns-then-misnamed c).Else-finished, sym c.misnamed.ensures ∙ c.if-misnamed.true)
 
-pub not_offered-absent-requires : goal.not_offered-absent-requires
-not_offered-absent-requires c = (named_5 (goal.at.not_offered-absent-requires c).Else-wrong, c.requires.exact.cells)
+pub not_offered-requires : goal.not_offered-requires
+not_offered-requires c = (named_5 (goal.at.not_offered-requires c).Else-misnamed, c.requires.exact.cells)
 
-pub returns-then-absent : goal.returns-then-absent
+pub returns-then-not_offered : goal.returns-then-not_offered
 unfolding refusal_of
-returns-then-absent c = rw (past_4 (goal.at.returns-then-absent c).Else-ended, past_5 (goal.at.returns-then-absent c).Else-wrong, sym c.not_offered-absent.ensures ∙ c.if-absent.true)
+returns-then-not_offered c = rw (past_4 (goal.at.returns-then-not_offered c).Else-finished, past_5 (goal.at.returns-then-not_offered c).Else-misnamed, sym c.not_offered.ensures ∙ c.if-not_offered.true)
 
-pub decided_else-taken-requires : goal.decided_else-taken-requires
-decided_else-taken-requires c = (named_5 (goal.at.decided_else-taken-requires c).Else-wrong, c.requires.exact.decisions)
+pub decided_else-requires : goal.decided_else-requires
+decided_else-requires c = (named_5 (goal.at.decided_else-requires c).Else-misnamed, c.requires.exact.decisions)
 
-pub returns-then-taken : goal.returns-then-taken
+pub returns-then-decided_else : goal.returns-then-decided_else
 unfolding refusal_of
-returns-then-taken c = rw (past_4 (goal.at.returns-then-taken c).Else-ended, past_5 (goal.at.returns-then-taken c).Else-wrong, past_6 (goal.at.returns-then-taken c).Else-absent, sym c.decided_else-taken.ensures ∙ c.if-taken.true)
+returns-then-decided_else c = rw (past_4 (goal.at.returns-then-decided_else c).Else-finished, past_5 (goal.at.returns-then-decided_else c).Else-misnamed, past_6 (goal.at.returns-then-decided_else c).Else-not_offered, sym c.decided_else.ensures ∙ c.if-decided_else.true)
 
-pub overfull-full-requires : goal.overfull-full-requires
-overfull-full-requires c =
+pub overfull-requires : goal.overfull-requires
+overfull-requires c =
     let p = c.requires in
-    record { at = at_cells (ready_4 (goal.at.overfull-full-requires c).Else-ended); exact = p.exact.logs; first_there = p.first_there }
+    record { at = at_cells (ready_4 (goal.at.overfull-requires c).Else-finished); exact = p.exact.logs; first_there = p.first_there }
 
-pub returns-then-full : goal.returns-then-full
+pub returns-then-overfull : goal.returns-then-overfull
 unfolding refusal_of
-returns-then-full c = rw (past_4 (goal.at.returns-then-full c).Else-ended, past_5 (goal.at.returns-then-full c).Else-wrong, past_6 (goal.at.returns-then-full c).Else-absent, past_7 (goal.at.returns-then-full c).Else-taken, overfull_in_is, sym c.overfull-full.ensures ∙ c.if-full.true)
+returns-then-overfull c = rw (past_4 (goal.at.returns-then-overfull c).Else-finished, past_5 (goal.at.returns-then-overfull c).Else-misnamed, past_6 (goal.at.returns-then-overfull c).Else-not_offered, past_7 (goal.at.returns-then-overfull c).Else-decided_else, overfull_in_is, sym c.overfull.ensures ∙ c.if-overfull.true)
 
 pub returns : goal.returns
 unfolding refusal_of
-returns c = rw (past_4 (goal.at.returns c).Else-ended, past_5 (goal.at.returns c).Else-wrong, past_6 (goal.at.returns c).Else-absent, past_7 (goal.at.returns c).Else-taken, overfull_in_is, sym c.overfull-full.ensures ∙ c.if-full.false)
+returns c = rw (past_4 (goal.at.returns c).Else-finished, past_5 (goal.at.returns c).Else-misnamed, past_6 (goal.at.returns c).Else-not_offered, past_7 (goal.at.returns c).Else-decided_else, overfull_in_is, sym c.overfull.ensures ∙ c.if-overfull.false)

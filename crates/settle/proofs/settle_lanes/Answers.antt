@@ -78,7 +78,7 @@ loop-lane-preserved c =
     let a = c.args in (
       search rules,
       (
-        c.logs-1.given.1 ∙ loop.invariant.1.0,
+        omega (arith, loop.invariant.1.0),
         rw add-one
             (part_settled a.size a.rack loop.logs loop.q loop.lane (2 * start.result) (2 * start.result + 2 * a.size.rounds - 2 * start.result)
             (ap (λ (x : ℕ). 2 * x) start.ensures) (omega arith) (lent (goal.at.loop-lane-preserved c).In-loop-lane) c.loop-lane-test.true (short (goal.at.loop-lane-preserved c).In-loop-lane) c.settle-q.ensures

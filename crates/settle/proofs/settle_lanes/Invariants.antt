@@ -7,6 +7,6 @@ use Rattle.model.specs.Settle.{Settled, settle_lanes}
 use Rattle.settle.proofs.settle_lanes.Given as goal
 
 abbrev pub invariant-loop-lane : goal.invariant-loop-lane
-invariant-loop-lane l = (l.lane ≤ l.k)
+invariant-loop-lane l = (l.lane ≤ l.size.lanes)
     × ((length l.logs ≡ length l.initial.logs)
     × (◌≡◌ {A = Settled} (record { logs = logs_of l.logs; rack = l.q }) (settle_lanes l.size l.rack (logs_of l.initial.logs) l.initial.q l.lane)))

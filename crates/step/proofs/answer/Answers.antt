@@ -6,8 +6,8 @@ use Rattle.step.proofs.answer.Goals as goal
 pub bounds-decisions-i : goal.bounds-decisions-i
 bounds-decisions-i c = decision_there c.requires _ c.decision_index-i.ensures
 
-pub advanced-q-requires : goal.advanced-q-requires
-advanced-q-requires c = omega (arith, step_small c.requires.round)
+pub advanced-requires : goal.advanced-requires
+advanced-requires c = omega (arith, step_small c.requires.round)
 
 pub returns : goal.returns
-returns c = rw (c.advanced-q.ensures, c.decision_index-i.ensures)
+returns c = rw (c.advanced.ensures, c.decision_index-i.ensures)

@@ -1,5 +1,8 @@
 -- The calls are the text of `block_ended`.
+use mathlib.Core.Path.{◌≡◌}
 use native.Mathlib.Omega.{arith}
+use borrow.Author.Rules.{rules}
+use Rattle.model.specs.Record.{no_cell}
 use Rattle.model.specs.Step.{block_ended}
 use Rattle.step.proofs.Places.{racks_few, lane_few, block_here}
 use Rattle.step.proofs.block_ended.Goals as goal
@@ -39,4 +42,6 @@ bounds-q-lane-2 c = lane_few c.requires _ c.lane_at-lane.ensures
 
 pub returns : goal.returns
 unfolding block_ended
-returns c = rw (c.no_cell-none.ensures, c.news-news.ensures, c.result-result.ensures, c.read-second.ensures, c.read-first.ensures, c.lane_at-lane.ensures)
+returns c =
+    let none : c.default-none.result ≡ no_cell = search rules in
+    rw (none, c.news-news.ensures, c.result-result.ensures, c.read-second.ensures, c.read-first.ensures, c.lane_at-lane.ensures)

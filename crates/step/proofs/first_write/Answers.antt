@@ -17,4 +17,4 @@ advanced-requires c = omega (arith, step_small c.requires.block.at.round)
 
 pub returns : goal.returns
 unfolding first_written
-returns c = rw (c.advanced.ensures, c.write.ensures, c.lane_at-lane.ensures, c.proposal-own.ensures)
+returns c = rw (c.advanced.ensures, c.write.ensures, c.lane_at-lane.ensures, c.offered.ensures, c.proposal-own.ensures)

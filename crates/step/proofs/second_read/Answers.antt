@@ -6,14 +6,14 @@ use Rattle.step.proofs.Places.{racks_few, lanes_few}
 use Rattle.step.proofs.Arms.{ended_round}
 use Rattle.step.proofs.second_read.Goals as goal
 
-pub is_last-last-requires : goal.is_last-last-requires
-is_last-last-requires c =
+pub is_last-requires : goal.is_last-requires
+is_last-requires c =
     let a = c.requires.block.at.round in
     (racks_few a, lanes_few a)
 
-pub returns-then-not-last : goal.returns-then-not-last
+pub returns-then-not-is_last : goal.returns-then-not-is_last
 unfolding second_reading
-returns-then-not-last c = rw (c.after_second_read-read.ensures, sym c.is_last-last.ensures ∙ c.if-not-last.true)
+returns-then-not-is_last c = rw (c.after_second_read-read.ensures, sym c.is_last.ensures ∙ c.if-not-is_last.true)
 
 pub settle_lanes-settled-requires : goal.settle_lanes-settled-requires
 settle_lanes-settled-requires c =
@@ -22,7 +22,7 @@ settle_lanes-settled-requires c =
       lent = record { sizes = p.block.at.round.size; exact = p.exact; rack_there = p.block.at.rack_there };
       room =
           rw c.after_second_read-read.ensures
-          (p.room (sym c.is_last-last.ensures ∙ c.if-not-last.false));
+          (p.room (sym c.is_last.ensures ∙ c.if-not-is_last.false));
     }
 
 pub round_ended-requires : goal.round_ended-requires
@@ -30,4 +30,4 @@ round_ended-requires c = omega (arith, ended_round _ _ _ _ _ _ c.requires.block.
 
 pub returns : goal.returns
 unfolding second_reading
-returns c = rw (c.round_ended.ensures, sym c.is_last-last.ensures ∙ c.if-not-last.false, ← c.after_second_read-read.ensures, ← c.settle_lanes-settled.ensures)
+returns c = rw (c.round_ended.ensures, sym c.is_last.ensures ∙ c.if-not-is_last.false, ← c.after_second_read-read.ensures, ← c.settle_lanes-settled.ensures)
