@@ -8,4 +8,5 @@ pub mod Place
 pub mod Ranges
 pub mod Length
 pub mod Start
+pub mod Refusals
 pub mod Rules

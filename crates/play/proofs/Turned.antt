@@ -1,5 +1,5 @@
 -- A turn on a card that fits and is sound: it is the turn of the rack that its record names, and that is bad, refused by a later test, or taken.
-use mathlib.Core.Path.{◌≡◌}
+use mathlib.Core.Path.{◌≡◌, sym, ap}
 use mathlib.Core.List.{List}
 use mathlib.Core.Bool.{true, false, ◌&&◌}
 use Prim.Native.Nat.{ℕ, ◌<◌}
@@ -22,6 +22,9 @@ use Rattle.step.specs.Ready.{Tested}
 use Rattle.step.proofs.Ready.{tested}
 use Rattle.play.specs.Playable.{Playable}
 use Rattle.play.specs.Rack.{RackOutcome, rack_named, rack_turned}
+
+pub same_racks : (outcome : List Rack → Outcome) (racks : List Rack) (rack : ℕ) → outcome racks ≡ outcome (set racks rack (rack_at racks rack))
+same_racks outcome racks rack = ap outcome (sym (set-get_or racks rack no_rack))
 
 module _ (s : Size) (card : Card) (p : Playable s card) where
   -- what the tests of the card say of one rack
@@ -57,7 +60,7 @@ module _ (s : Size) (card : Card) (p : Playable s card) where
     same : (number rack : ℕ)
         → ◌≡◌ {A = Outcome} (record { number = number; card = record { tables = card.tables; racks = set card.racks rack (rack_at card.racks rack) } })
         (record { number = number; card = card })
-    same number rack = rw (set-get_or card.racks rack no_rack)
+    same number rack = sym (same_racks (λ racks. record { number = number; card = record { tables = card.tables; racks = racks } }) card.racks rack)
 
     named_turned : (o : RackOutcome) → o ≡ rack_turned s card.tables (rack_at card.racks (rack_named s turn)) turn
         → record { number = o.number; card = record { tables = o.after.tables; racks = set card.racks (rack_named s turn) o.after.rack } }

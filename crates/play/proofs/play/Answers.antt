@@ -1,9 +1,13 @@
 -- The turn of the rack named, put back among the eight, is the turn.
+use mathlib.Core.Path.{◌∙◌}
 use Prim.Native.Nat.{◌<◌}
 use native.Mathlib.Omega.{arith}
-use Rattle.model.specs.InUse.{tables_of}
-use Rattle.model.specs.Table.{Card}
-use Rattle.play.proofs.Turned.{few, tested_rack, turned_rack}
+use Rattle.std.proofs.lemmas.Result.{err_from_is_err_and}
+use Rattle.model.specs.InUse.{tables_of, after_of, outcome}
+use Rattle.model.specs.Table.{Card, rack_at}
+use Rattle.model.specs.Refusal.{number_of}
+use Rattle.play.specs.Rack.{RackOutcome}
+use Rattle.play.proofs.Turned.{few, same_racks, tested_rack, turned_rack}
 use Rattle.play.proofs.play.Goals as goal
 use Rattle.play.proofs.play.Goals.{After-rack_named-rack}
 
@@ -22,8 +26,8 @@ offset_bounds-racks-rack c = omega (arith, there (goal.at.offset_bounds-racks-ra
 pub bounds-racks-rack : goal.bounds-racks-rack
 bounds-racks-rack c = there (goal.at.bounds-racks-rack c).After-rack_named-rack
 
-pub play_rack-played-requires : goal.play_rack-played-requires
-play_rack-played-requires c = tested_rack _ (lent (goal.at.play_rack-played-requires c).After-rack_named-rack) c.requires _ _ c.rack_named-rack.ensures
+pub play_rack-requires : goal.play_rack-requires
+play_rack-requires c = tested_rack _ (lent (goal.at.play_rack-requires c).After-rack_named-rack) c.requires _ _ c.rack_named-rack.ensures
 
 pub offset_bounds-all-rack : goal.offset_bounds-all-rack
 offset_bounds-all-rack c = omega (arith, there (goal.at.offset_bounds-all-rack c).After-rack_named-rack)
@@ -31,5 +35,18 @@ offset_bounds-all-rack c = omega (arith, there (goal.at.offset_bounds-all-rack c
 pub bounds-all-rack : goal.bounds-all-rack
 bounds-all-rack c = there (goal.at.bounds-all-rack c).After-rack_named-rack
 
+pub returns-in_err-all : goal.returns-in_err-all
+returns-in_err-all c =
+    let p = err_from_is_err_and c.from_residual.result c.from_residual.ensures.1 in
+    let a = c.args in
+    let o : RackOutcome = record {
+      number = number_of c.in_err-all.field-0.0;
+      after = after_of c.play_rack.new.cells c.play_rack.new.logs c.play_rack.new.decisions (rack_at a.racks c.rack_named-rack.result);
+    } in
+    rw (p.1, p.2)
+    (same_racks (λ racks. outcome o.number c.play_rack.new.cells c.play_rack.new.logs c.play_rack.new.decisions racks) a.racks c.rack_named-rack.result ∙ turned_rack _ (lent (goal.at.returns-in_err-all c).After-rack_named-rack) c.requires _ _ c.rack_named-rack.ensures o c.in_err-all.ensures)
+
 pub returns : goal.returns
-returns c = turned_rack _ (lent (goal.at.returns c).After-rack_named-rack) c.requires _ _ c.rack_named-rack.ensures _ c.play_rack-played.ensures
+returns c =
+    let o : RackOutcome = record { number = 0; after = after_of c.play_rack.new.cells c.play_rack.new.logs c.play_rack.new.decisions c.in_ok-all.field-0 } in
+    turned_rack _ (lent (goal.at.returns c).After-rack_named-rack) c.requires _ _ c.rack_named-rack.ensures o c.in_ok-all.ensures
