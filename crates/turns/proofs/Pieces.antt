@@ -1,6 +1,7 @@
 -- What stands at a place says which records `pieces` lists from there on.
 use mathlib.Core.Path.{◌≡◌, refl, ◌∙◌}
 use mathlib.Core.List.{List, [], ◌∷◌}
+use Rattle.std.specs.Prelude.{Option, Some, None}
 use Prim.Native.Nat.{ℕ, ◌+◌, ◌-◌, ◌/◌, ◌≤◌, ◌<◌}
 use native.Mathlib.Omega.{arith}
 use native.Mathlib.Nat.{add-zero}
@@ -10,7 +11,7 @@ use lib.Seq.{take_all, get_or-drop, drop-drop}
 use Rattle.laws.proofs.Cases.{either, lt_or_ge}
 use Rattle.model.specs.declared.Turn.{Turn}
 use Rattle.model.specs.declared.Piece.{Piece}
-use Rattle.model.specs.declared.Piece.TheVariants.{Whole, Short, End}
+use Rattle.model.specs.declared.Piece.TheVariants.{Whole, Short}
 use Rattle.model.specs.Night.{piece_at, pieces}
 use Rattle.turns.specs.Walk.{turn_bytes}
 
@@ -56,10 +57,10 @@ pub record EndFrom (bytes : List ℕ) (place : ℕ) : Type 0 where
   pub none : pieces (drop place bytes) ≡ []
 
 -- each piece with what it says
-abbrev Says : List ℕ → ℕ → Piece → Type 0
-Says bytes place (Whole t next) = WholeFrom bytes place t next
-Says bytes place (Short left) = ShortFrom bytes place left
-Says bytes place End = EndFrom bytes place
+abbrev Says : List ℕ → ℕ → Option Piece → Type 0
+Says bytes place (Some (Whole t next)) = WholeFrom bytes place t next
+Says bytes place (Some (Short left)) = ShortFrom bytes place left
+Says bytes place None = EndFrom bytes place
 
 module _ (bytes : List ℕ) (place : ℕ) where
   at_end : length bytes ≤ place → Says bytes place (piece_at bytes place)
@@ -87,13 +88,13 @@ module _ (bytes : List ℕ) (place : ℕ) where
       (λ h. either (lt_or_ge (length bytes - place) 4) (λ g. at_short h g) (λ g. at_whole h g))
       (λ h. at_end h)
 
-  pub whole_from : (t : Turn) (next : ℕ) → piece_at bytes place ≡ Whole t next → WholeFrom bytes place t next
+  pub whole_from : (t : Turn) (next : ℕ) → piece_at bytes place ≡ Some (Whole t next) → WholeFrom bytes place t next
   whole_from t next e = rw e at says
 
-  pub short_from : (left : ℕ) → piece_at bytes place ≡ Short left → ShortFrom bytes place left
+  pub short_from : (left : ℕ) → piece_at bytes place ≡ Some (Short left) → ShortFrom bytes place left
   short_from left e = rw e at says
 
-  pub end_from : piece_at bytes place ≡ End → EndFrom bytes place
+  pub end_from : piece_at bytes place ≡ None → EndFrom bytes place
   end_from e = rw e at says
 
 -- how many records bytes have
