@@ -1,25 +1,21 @@
 -- What the tests of a cue record and of the lists say, and where a list stands.
 use mathlib.Core.Path.{◌≡◌, refl}
 use mathlib.Core.List.{List}
-use mathlib.Core.Bool.{Bool, true, false, cond, not, ◌&&◌, ◌||◌}
-use Prim.Native.Nat.{ℕ, zero, suc, ◌+◌, ◌*◌, ◌-◌, ◌≤◌, ◌<◌}
+use mathlib.Core.Bool.{Bool, true, false, not, ◌&&◌, ◌||◌}
+use Prim.Native.Nat.{ℕ, ◌+◌, ◌*◌, ◌≤◌, ◌<◌}
 use native.Mathlib.Omega.{arith}
 use native.Mathlib.Nat.{add-zero}
 use borrow.Author.Tests.{leb-true, leb-false, eqb-true, not-false}
-use lib.Dec.{eqb, leb, ltb}
+use lib.Dec.{eqb, leb}
 use lib.ListN.{length, get_or}
 use lib.Seq.{get_or-drop}
 use Rattle.laws.proofs.Cases.{and_true, or_false}
 use Rattle.laws.proofs.Index.{cell_below, product_le}
 use Rattle.model.specs.Size.{within}
-use Rattle.model.specs.Cues.{list_most, lists_length, lists_fit, list_start, list_length, code_at, bad_cue, add_cue, code_in}
-use Rattle.cues.specs.Adding.{out_of_range, Placed, list_cue}
+use Rattle.model.specs.Cues.{list_most, lists_length, lists_fit, list_start, list_length, code_at, bad_cue}
+use Rattle.cues.specs.Adding.{out_of_range, Placed}
 
--- tests joined in another order
-and_apart : (a b c : Bool) → a && (b && c) ≡ (a && b) && c
-and_apart true b c = refl
-and_apart false b c = refl
-
+-- a last test taken apart from those before it
 or_apart : (a b c d e : Bool) → a || (b || (c || (d || e))) ≡ (a || (b || (c || d))) || e
 or_apart true b c d e = refl
 or_apart false true c d e = refl
@@ -33,12 +29,6 @@ unfolding bad_cue out_of_range
 bad_apart n k lists cue =
     or_apart (not (eqb (length cue) 4)) (leb n (get_or cue 0 0)) (leb k (get_or cue 1 0)) (eqb (get_or cue 2 0) 0 && eqb (get_or cue 3 0) 0)
     (leb list_most (list_length k lists (get_or cue 0 0) (get_or cue 1 0)))
-
--- lists fit if racks and lanes are in range and the length is exact
-pub fit_apart : (n k : ℕ) (lists : List ℕ) {b : Bool} → within 1 8 n && within 1 4 k ≡ b
-    → lists_fit n k lists ≡ b && eqb (length lists) (lists_length n k)
-unfolding lists_fit
-fit_apart n k lists e = rw (and_apart (within 1 8 n) (within 1 4 k) (eqb (length lists) (lists_length n k)), e)
 
 -- racks and lanes in range are few lists
 pub few_lists : (n k : ℕ) → within 1 8 n && within 1 4 k ≡ true → n * k ≤ 32
@@ -73,20 +63,7 @@ placed n k lists cue e f =
           (leb-false k (get_or cue 1 0) v.0);
     }
 
--- a record in range is listed
-pub add_listed : (n k : ℕ) (lists cue : List ℕ) → lists_fit n k lists ≡ true → out_of_range n k cue ≡ false → add_cue n k lists cue ≡ list_cue k lists cue
-unfolding add_cue list_cue
-add_listed n k lists cue e f = rw (e, bad_apart n k lists cue, f)
-
 -- a code by its bytes in the lists
 pub code_bytes : (lists : List ℕ) (i : ℕ) → code_at lists i ≡ get_or lists (2 * i) 0 + 256 * get_or lists (2 * i + 1) 0
 unfolding code_at
 code_bytes lists i = simp (get_or-drop, add-zero)
-
--- the code of a number that is not 0
-pub code_there : (k : ℕ) (lists : List ℕ) (rack lane number : ℕ) → (number ≡ 0 → ⊥)
-    → code_in k lists rack lane number
-    ≡ cond (ltb (number - 1) (list_length k lists rack lane)) (code_at lists (list_start k rack lane + (number - 1))) 0
-unfolding code_in
-code_there k lists rack lane zero h = absurd (h refl)
-code_there k lists rack lane (suc i) h = let e : suc i - 1 ≡ i = omega arith in rw e
