@@ -116,7 +116,7 @@ fn list_cue(lanes: usize, lists: &mut [u8], cue: &[u8]) -> Result<(), Refusal>
 }
 
 // A cue record added to the lists. "lists stay as before" at a refusal.
-#[tactic(auto, using(crate::proofs::Lists::bad_apart), unfolding(model::specs::Cues::add_cue, crate::specs::Adding::list_cue))]
+#[tactic(auto, using(crate::proofs::Lists::list_within), unfolding(model::specs::Cues::add_cue, model::specs::Cues::bad_cue, crate::specs::Adding::list_cue, crate::specs::Adding::out_of_range))]
 pub fn add_cue(racks: usize, lanes: usize, lists: &mut [u8], cue: &[u8]) -> Result<(), Refusal>
     ensures { record { number = reply_number result; lists = lists.new } ≡ add_cue racks lanes lists.old cue.now }
 {
