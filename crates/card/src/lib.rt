@@ -3,23 +3,28 @@
 
 ghost use Rattle.std.specs.Prelude.{◌≡◌};
 ghost use Rattle.model.specs.InUse.{card_of, outcome};
+ghost use Rattle.model.specs.Refusal.{reply_number, reply_or};
 ghost use Rattle.model.specs.Turn.{turned, soundness};
 
-use model::{Rack, Reply, Size};
+use model::{Rack, Refusal, Size};
 
-// 1 for sizes and lengths, 2 for tables or states that are not sound, else 0.
-pub fn sound(size: Size, cells: &[u8], logs: &[u8], decisions: &[u8], racks: [Rack; 8]) -> u8
-    ensures { result ≡ soundness size (card_of cells.now logs.now decisions.now racks) }
+// Refused with 1 for sizes and lengths, with 2 for tables or states that are not sound.
+pub fn sound(
+    size: Size,
+    cells: &[u8],
+    logs: &[u8],
+    decisions: &[u8],
+    racks: [Rack; 8],
+) -> Result<(), Refusal>
+    ensures { reply_number result ≡ soundness size (card_of cells.now logs.now decisions.now racks) }
 {
-    let fine = sizes::lengths_fit(size, cells.len(), logs.len(), decisions.len());
-    if !fine {
-        return 1;
+    if !sizes::lengths_fit(size, cells.len(), logs.len(), decisions.len()) {
+        return Err(Refusal::Misfit);
     }
-    let sound = sound::sound(size, cells, logs, decisions, racks);
-    if !sound {
-        return 2;
+    if !sound::sound(size, cells, logs, decisions, racks) {
+        return Err(Refusal::Unsound);
     }
-    0
+    Ok(())
 }
 
 // One turn: refused with 1 to 8 and nothing changed, or taken.
@@ -31,13 +36,10 @@ pub fn turn(
     decisions: &mut [u8],
     racks: [Rack; 8],
     turn: &[u8],
-) -> Reply
-    ensures { outcome result.number cells.new logs.new decisions.new result.racks
+) -> Result<[Rack; 8], Refusal>
+    ensures { outcome (reply_number result) cells.new logs.new decisions.new (reply_or racks result)
         ≡ turned size (card_of cells.old logs.old decisions.old racks) turn.now }
 {
-    let number = sound(size, cells, logs, decisions, racks);
-    if number != 0 {
-        return Reply { number, racks };
-    }
+    sound(size, cells, logs, decisions, racks)?;
     play::play(size, cells, logs, decisions, racks, turn)
 }

@@ -5,7 +5,7 @@ use native.Mathlib.Omega.{arith}
 use Rattle.std.proofs.Common.{Result, Ok, Err, cond, eqb}
 use Rattle.model.specs.declared.Refusal.{Refusal}
 use Rattle.model.specs.declared.Refusal.TheVariants.{Misfit, Unsound, BadRecord, Finished, Misnamed, NotOffered, DecidedElse, Overfull, NotThere, BadCue}
-use Rattle.model.specs.Refusal.{number_of, Answer, numbered}
+use Rattle.model.specs.Refusal.{number_of, Answer, numbered, reply_number, reply_or}
 
 pub not_zero : (refusal : Refusal) → number_of refusal ≡ 0 → ⊥
 not_zero Misfit e = omega arith
@@ -55,3 +55,10 @@ of_its_answer (Err refusal) = ap (λ x. Err x) (of_its_number refusal)
 
 pub same_answer : {A : Type 0} (r r' : Result A Refusal) → numbered r ≡ numbered r' → r ≡ r'
 same_answer r r' e = sym (of_its_answer r) ∙ ap of_answer e ∙ of_its_answer r'
+
+pub same_reply : {A : Type 0} (before : A) (r r' : Result A Refusal) → reply_number r ≡ reply_number r' → reply_or before r ≡ reply_or before r' → r ≡ r'
+same_reply before (Ok a) (Ok b) e f = ap (λ x. Ok x) f
+same_reply before (Ok a) (Err refusal) e f = absurd (not_zero refusal (sym e))
+same_reply before (Err refusal) (Ok b) e f = absurd (not_zero refusal e)
+same_reply before (Err refusal) (Err other) e f =
+    ap (λ x. Err x) (sym (of_its_number refusal) ∙ ap of_number e ∙ of_its_number other)

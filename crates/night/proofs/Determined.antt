@@ -4,7 +4,7 @@ use mathlib.Core.Bool.{true, cond}
 use mathlib.Core.List.{List}
 use Prim.Native.Nat.{ℕ, ◌/◌, ◌<◌}
 use Rattle.model.specs.declared.Size.{Size}
-use Rattle.model.specs.declared.Entry.TheVariants.{Found, Refused}
+use Rattle.std.specs.Prelude.{Ok, Err}
 use Rattle.model.specs.Size.{size_fits, round_steps}
 use Rattle.model.specs.Table.{Card, log_length}
 use Rattle.model.specs.Logs.{is_there}
@@ -57,7 +57,7 @@ module _ (M : Machine) (d : Demands M) (s : Size) (e : size_fits s ≡ true) (tu
         entries = λ rack lane place.
             d.demand3.entries_told s e turns rack lane place
             ∙ ap
-            (λ (c : Card). cond (is_there s c.tables.logs rack lane place) (Found (entry_of card s c rack lane place)) (Refused 9))
+            (λ (c : Card). cond (is_there s c.tables.logs rack lane place) (Ok (entry_of card s c rack lane place)) (Err 9))
             reaches
             ∙ sym (demands.demand3.entries_told s e turns rack lane place);
       }

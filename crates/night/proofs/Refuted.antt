@@ -4,9 +4,9 @@ use mathlib.Core.List.{List, [], ◌∷◌, ◌++◌}
 use Prim.Native.Nat.{ℕ, ◌≤◌}
 use native.Mathlib.Omega.{arith}
 use lib.Dec.{lit<, lit≤}
-use Rattle.model.specs.declared.Entry.{Entry}
 use Rattle.model.specs.Turn.{Outcome}
-use Rattle.model.specs.Logs.{entry_number, entry_cue, is_there, queried, log_entry}
+use Rattle.model.specs.Refusal.{Answer, answer_number, answer_value}
+use Rattle.model.specs.Logs.{is_there, queried, log_entry}
 use Rattle.model.specs.Table.{log_length}
 use Rattle.night.specs.Opened.{rules}
 use Rattle.night.specs.Machine.{from, taken_from, cues_of, entries_in}
@@ -67,7 +67,7 @@ no_invents_length d =
 no_invents_entry : Demand3 invents_entry → ⊥
 unfolding rules from queried log_entry is_there
 no_invents_entry d =
-    let e : ◌≡◌ {A = ℕ} 1 2 = ap (λ (x : Entry). (entry_cue x).number) (d.entries_told (alone 2) refl (round ++ round) 0 0 1) in
+    let e : ◌≡◌ {A = ℕ} 1 2 = ap (λ (x : Answer Cue). (answer_value no_cue x).number) (d.entries_told (alone 2) refl (round ++ round) 0 0 1) in
     omega arith
 
 -- "each equals the count in the history of turns or the list": one that tells less is shut out as well
@@ -92,7 +92,7 @@ no_hides_length d =
 no_hides_entry : Demand3 hides_entry → ⊥
 unfolding rules from is_there
 no_hides_entry d =
-    let e : ◌≡◌ {A = ℕ} 9 0 = ap entry_number (d.entries_told (alone 1) refl round 0 0 0) in
+    let e : ◌≡◌ {A = ℕ} 9 0 = ap answer_number (d.entries_told (alone 1) refl round 0 0 0) in
     omega arith
 
 -- "0#1 twice in P10's night": R = 4, and with the turn in it that is refused with 7

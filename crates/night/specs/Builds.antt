@@ -1,7 +1,6 @@
 -- Builds that do not do the job: the useless ones, and the errors that look right.
-use Rattle.std.specs.Prelude.{List, true, false, cond, not, ◌&&◌, ℕ, suc, ◌-◌, ◌/◌, eqb, ltb, set}
+use Rattle.std.specs.Prelude.{List, true, false, cond, not, ◌&&◌, ℕ, suc, ◌-◌, ◌/◌, eqb, ltb, set, Err}
 use Rattle.model.specs.declared.Size.{Size}
-use Rattle.model.specs.declared.Entry.TheVariants.{Refused}
 use Rattle.model.specs.Record.{same_cell, is_committed}
 use Rattle.model.specs.Table.{Card, offers, cell_now, decision_at, rack_at}
 use Rattle.model.specs.Step.{advanced, ending_round, is_last, step}
@@ -20,7 +19,7 @@ does_nothing = turning (λ s c turn. record { number = 0; card = c })
 
 -- "One with constant empty logs"
 abbrev pub empty_logs : Machine
-empty_logs = telling card.finished (λ s c rack lane. 0) (λ s c rack lane place. Refused 9)
+empty_logs = telling card.finished (λ s c rack lane. 0) (λ s c rack lane place. Err 9)
 
 -- "One that works in round 1 and then idles": it goes on counting
 unfoldable pub idle : Size → Card → ℕ → Outcome
@@ -63,7 +62,7 @@ abbrev pub hides_length : Machine
 hides_length = telling card.finished (λ s c rack lane. card.finished s c rack / 2) card.entry
 
 abbrev pub hides_entry : Machine
-hides_entry = telling card.finished card.length (λ s c rack lane place. Refused 9)
+hides_entry = telling card.finished card.length (λ s c rack lane place. Err 9)
 
 -- "Running a committed value without comparing its place with the log"
 abbrev pub without_place : Rules

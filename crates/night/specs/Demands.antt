@@ -1,11 +1,10 @@
 -- The client's demands 2 and 3, of any machine: "From a fresh table, after any sequence of turns, taken or refused, and with any racks stopped".
-use Rattle.std.specs.Prelude.{◌≡◌, List, [], ◌∷◌, ◌++◌, ◌⊎◌, ◌↔◌, true, false, cond, ℕ, suc, ◌+◌, ◌-◌, ◌/◌, ◌≤◌, ◌<◌, ltb, eqb}
+use Rattle.std.specs.Prelude.{◌≡◌, List, [], ◌∷◌, ◌++◌, ◌⊎◌, ◌↔◌, true, false, cond, ℕ, suc, ◌+◌, ◌-◌, ◌/◌, ◌≤◌, ◌<◌, ltb, eqb, Ok, Err}
 use Rattle.model.specs.declared.Size.{Size}
 use Rattle.model.specs.declared.Value.{Value}
 use Rattle.model.specs.declared.Cell.{Cell}
 use Rattle.model.specs.declared.Rack.{Rack}
 use Rattle.model.specs.declared.Kind.TheVariants.{SecondRead}
-use Rattle.model.specs.declared.Entry.TheVariants.{Found, Refused}
 use Rattle.model.specs.Size.{size_fits, block_steps, round_steps}
 use Rattle.model.specs.Record.{no_cell, offered, is_empty, is_committed, Cells}
 use Rattle.model.specs.Table.{Card, offers, first_cells, read_cell, log_length, undecided, decision_at, rack_at, result_at, news_at}
@@ -152,7 +151,7 @@ module _ (M : Machine) where
     pub entries_told : (s : Size) → size_fits s ≡ true → (turns : List (List ℕ)) (rack lane place : ℕ)
         → M.entry s (reached M s turns) rack lane place
         ≡ cond (is_there s (reached M s turns).tables.logs rack lane place)
-        (Found (entry_of M s (reached M s turns) rack lane place)) (Refused 9)
+        (Ok (entry_of M s (reached M s turns) rack lane place)) (Err 9)
 
   pub record Demands : Type 0 where
     pub demand2 : Demand2

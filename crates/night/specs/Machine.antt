@@ -3,11 +3,11 @@ use Rattle.std.specs.Prelude.{List, [], ◌∷◌, cond, ◌&&◌, ℕ, zero, su
 use Rattle.model.specs.Form.{length_of}
 use Rattle.model.specs.declared.Size.{Size}
 use Rattle.model.specs.declared.Cue.{Cue}
-use Rattle.model.specs.declared.Entry.{Entry}
 use Rattle.model.specs.Record.{entry_at}
 use Rattle.model.specs.Table.{Card, log_start, log_length, rack_at}
 use Rattle.model.specs.Turn.{Outcome, rack_of, turned}
 use Rattle.model.specs.Fresh.{fresh_card}
+use Rattle.model.specs.Refusal.{Answer}
 use Rattle.model.specs.Logs.{log_entry}
 
 -- what it starts from, what a turn does, and what it tells of a card: the rounds that a rack has finished, a log's length, and what a log query
@@ -17,7 +17,7 @@ pub record Machine : Type 0 where
   pub turn : Size → Card → List ℕ → Outcome
   pub finished : Size → Card → ℕ → ℕ
   pub length : Size → Card → ℕ → ℕ → ℕ
-  pub entry : Size → Card → ℕ → ℕ → ℕ → Entry
+  pub entry : Size → Card → ℕ → ℕ → ℕ → Answer Cue
 
 -- the card of document 01
 abbrev pub card : Machine
@@ -35,7 +35,7 @@ abbrev pub turning : (Size → Card → List ℕ → Outcome) → Machine
 turning turn = record { fresh = card.fresh; turn = turn; finished = card.finished; length = card.length; entry = card.entry }
 
 -- a machine that turns as the card does, and tells so much of what it has reached
-abbrev pub telling : (Size → Card → ℕ → ℕ) → (Size → Card → ℕ → ℕ → ℕ) → (Size → Card → ℕ → ℕ → ℕ → Entry) → Machine
+abbrev pub telling : (Size → Card → ℕ → ℕ) → (Size → Card → ℕ → ℕ → ℕ) → (Size → Card → ℕ → ℕ → ℕ → Answer Cue) → Machine
 telling finished length entry = record { fresh = card.fresh; turn = card.turn; finished = finished; length = length; entry = entry }
 
 module _ (M : Machine) (s : Size) where

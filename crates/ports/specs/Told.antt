@@ -1,19 +1,21 @@
--- What a firmware is told where the call below answers with an enum or hands back a log: numbers, in a struct.
+-- What a firmware is told where the call below answers with a value or a refusal, or hands back a log: numbers, in a struct.
 use Rattle.std.specs.Prelude.{List, Bool, cond, ℕ, zero, suc, ltb, length}
-use Rattle.model.specs.declared.Entry.{Entry}
-use Rattle.model.specs.declared.Code.{Code}
-use Rattle.model.specs.Logs.{entry_number, entry_cue, agree, longer}
-use Rattle.model.specs.Cues.{code_number, code_value}
+use Rattle.model.specs.declared.Cue.{Cue}
+use Rattle.model.specs.Record.{no_cue}
+use Rattle.model.specs.Refusal.{Answer, answer_number, answer_value}
+use Rattle.model.specs.Logs.{agree, longer}
 use Rattle.ports.specs.declared.EntryAnswer.{EntryAnswer}
 use Rattle.ports.specs.declared.LongerAnswer.{LongerAnswer}
 use Rattle.ports.specs.declared.CodeAnswer.{CodeAnswer}
 
 -- "A refusal returns its number and zeros"
-abbrev pub entry_told : Entry → EntryAnswer
-entry_told e = record { number = entry_number e; issuer = (entry_cue e).issuer; cue = (entry_cue e).number }
+abbrev pub entry_told : Answer Cue → EntryAnswer
+entry_told e =
+    let cue = answer_value no_cue e in
+    record { number = answer_number e; issuer = cue.issuer; cue = cue.number }
 
-abbrev pub code_told : Code → CodeAnswer
-code_told c = record { number = code_number c; code = code_value c }
+abbrev pub code_told : Answer ℕ → CodeAnswer
+code_told c = record { number = answer_number c; code = answer_value 0 c }
 
 -- whether two logs agree, as a number
 abbrev pub agree_told : Bool → ℕ

@@ -4,32 +4,52 @@
 
 ghost use Rattle.std.specs.Prelude.{◌≡◌};
 ghost use Rattle.model.specs.InUse.{logs_of, tables_of, card_of, outcome};
+ghost use Rattle.model.specs.Refusal.{reply_number, reply_or};
 ghost use Rattle.model.specs.Turn.{turned, soundness};
 ghost use Rattle.model.specs.Fresh.{filled};
 ghost use Rattle.model.specs.Logs.{log_entry, agree};
 ghost use Rattle.model.specs.Cues.{add_cue, code_of};
 ghost use Rattle.ports.specs.Told.{entry_told, agree_told, longer_told, code_told};
 
-use model::{Code, Entry, Rack, Size};
+use model::{Rack, Refusal, Size};
 
 // "The rack states are one fixed array of eight"
 #[repr(C)]
-#[derive(Clone, Copy)]
+#[derive(Clone, Copy, Debug, Default, PartialEq, Eq)]
 pub struct Racks {
     pub rack: [Rack; 8],
 }
 
 // What a call that works on the racks hands back: 0 or the refusal's number, and the eight racks.
 #[repr(C)]
-#[derive(Clone, Copy)]
+#[derive(Clone, Copy, Debug, Default, PartialEq, Eq)]
 pub struct Answer {
     pub number: u8,
     pub racks: Racks,
 }
 
+impl Answer {
+    // A reply, with the racks to hand back where it is a refusal.
+    fn of(reply: Result<[Rack; 8], Refusal>, before: [Rack; 8]) -> Answer
+        ensures number { result.number ≡ reply_number reply }
+        ensures racks { result.racks.rack ≡ reply_or before reply }
+    {
+        match reply {
+            Ok(rack) => Answer {
+                number: 0,
+                racks: Racks { rack },
+            },
+            Err(refusal) => Answer {
+                number: refusal.into(),
+                racks: Racks { rack: before },
+            },
+        }
+    }
+}
+
 // What a log query answers: 0, the issuer and the cue's number; or the refusal's number and zeros.
 #[repr(C)]
-#[derive(Clone, Copy)]
+#[derive(Clone, Copy, Debug, Default, PartialEq, Eq)]
 pub struct EntryAnswer {
     pub number: u8,
     pub issuer: u8,
@@ -38,7 +58,7 @@ pub struct EntryAnswer {
 
 // Which log is the longer: 0 the first, 1 the second, 2 if they do not agree; and the length in bytes of what `longer` hands back.
 #[repr(C)]
-#[derive(Clone, Copy)]
+#[derive(Clone, Copy, Debug, Default, PartialEq, Eq)]
 pub struct LongerAnswer {
     pub which: u8,
     pub length: usize,
@@ -46,10 +66,20 @@ pub struct LongerAnswer {
 
 // What a query for a cue's code answers: 0 and the code; or the refusal's number and 0.
 #[repr(C)]
-#[derive(Clone, Copy)]
+#[derive(Clone, Copy, Debug, Default, PartialEq, Eq)]
 pub struct CodeAnswer {
     pub number: u8,
     pub code: u16,
+}
+
+// 0, or the refusal's number.
+fn number_of(reply: Result<(), Refusal>) -> u8
+    ensures { result ≡ reply_number reply }
+{
+    match reply {
+        Ok(()) => 0,
+        Err(refusal) => refusal.into(),
+    }
 }
 
 // Fills the three tables and hands back the racks, over `fresh::fresh`.
@@ -70,11 +100,7 @@ pub fn night_fresh(
         rounds,
     };
     let filled = fresh::fresh(size, cells, logs, decisions);
-    let rack = filled.racks;
-    Answer {
-        number: filled.number,
-        racks: Racks { rack },
-    }
+    Answer::of(filled, [Rack::default(); 8])
 }
 
 // The soundness test, over `card::sound`: 0, 1 or 2.
@@ -95,8 +121,7 @@ pub fn night_sound(
         lanes: k,
         rounds,
     };
-    let rack = racks.rack;
-    card::sound(size, cells, logs, decisions, rack)
+    number_of(card::sound(size, cells, logs, decisions, racks.rack))
 }
 
 // One turn, over `card::turn`.
@@ -119,13 +144,8 @@ pub fn night_turn(
         lanes: k,
         rounds,
     };
-    let rack = racks.rack;
-    let turned = card::turn(size, cells, logs, decisions, rack, turn);
-    let next = turned.racks;
-    Answer {
-        number: turned.number,
-        racks: Racks { rack: next },
-    }
+    let turned = card::turn(size, cells, logs, decisions, racks.rack, turn);
+    Answer::of(turned, racks.rack)
 }
 
 // The log query, over `entry::log_entry`.
@@ -145,15 +165,14 @@ pub fn night_log_entry(
         lanes: k,
         rounds,
     };
-    let answer = entry::log_entry(size, logs, rack, lane, place);
-    match answer {
-        Entry::Found(cue) => EntryAnswer {
+    match entry::log_entry(size, logs, rack, lane, place) {
+        Ok(cue) => EntryAnswer {
             number: 0,
             issuer: cue.issuer,
             cue: cue.number,
         },
-        Entry::Refused(number) => EntryAnswer {
-            number,
+        Err(refusal) => EntryAnswer {
+            number: refusal.into(),
             issuer: 0,
             cue: 0,
         },
@@ -164,18 +183,14 @@ pub fn night_log_entry(
 pub fn night_agree(a: &[u8], b: &[u8]) -> u8
     ensures { result ≡ agree_told (agree a.now b.now) }
 {
-    if compare::agree(a, b) {
-        return 1;
-    }
-    0
+    u8::from(compare::agree(a, b))
 }
 
 // Which of two logs `compare::longer` hands back, and its length.
 pub fn night_longer<'a>(a: &'a [u8], b: &'a [u8]) -> LongerAnswer
     ensures { result ≡ longer_told a.now b.now }
 {
-    let agreeing = compare::agree(a, b);
-    if !agreeing {
+    if !compare::agree(a, b) {
         return LongerAnswer {
             which: 2,
             length: 0,
@@ -192,7 +207,7 @@ pub fn night_longer<'a>(a: &'a [u8], b: &'a [u8]) -> LongerAnswer
 pub fn night_add_cue(n: usize, k: usize, lists: &mut [u8], cue: &[u8]) -> u8
     ensures { record { number = result; lists = lists.new } ≡ add_cue n k lists.old cue.now }
 {
-    cues::add_cue(n, k, lists, cue)
+    number_of(cues::add_cue(n, k, lists, cue))
 }
 
 // The code of a rack's and lane's cue, over `cues::code_of`.
@@ -206,9 +221,11 @@ pub fn night_code_of(
 ) -> CodeAnswer
     ensures { result ≡ code_told (code_of n k lists.now rack lane cue) }
 {
-    let answer = cues::code_of(n, k, lists, rack, lane, cue);
-    match answer {
-        Code::Of(code) => CodeAnswer { number: 0, code },
-        Code::Refused(number) => CodeAnswer { number, code: 0 },
+    match cues::code_of(n, k, lists, rack, lane, cue) {
+        Ok(code) => CodeAnswer { number: 0, code },
+        Err(refusal) => CodeAnswer {
+            number: refusal.into(),
+            code: 0,
+        },
     }
 }

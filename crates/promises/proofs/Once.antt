@@ -1,10 +1,18 @@
 -- Every public call keeps its promise, and its promise determines the outcome. Each law takes the call's own theorem, `met`: if its contract says
 -- anything else than `Calls` does, less or more, the law is refused.
-use mathlib.Core.Path.{◌≡◌, sym, ap, ◌∙◌}
+use mathlib.Core.Path.{◌≡◌, refl, sym, ap, ◌∙◌}
 use mathlib.Core.List.{List}
 use Prim.Native.Nat.{ℕ}
 use denote.Ref.{Bor}
 use denote.Triple.Clauses.{Ended}
+use Rattle.std.specs.Prelude.{Result}
+use Rattle.model.specs.declared.Rack.{Rack}
+use Rattle.model.specs.declared.Refusal.{Refusal}
+use Rattle.model.specs.Refusal.{reply_number, reply_or}
+use Rattle.model.specs.Turn.{Outcome}
+use Rattle.model.specs.InUse.{outcome}
+use Rattle.model.specs.Cues.{Listed}
+use Rattle.model.proofs.Refusals.{same_answer, same_reply}
 use Rattle.compare.specs.Itself.{longer_itself}
 use Rattle.turns.specs.declared.Turns.{Turns}
 use Rattle.fresh.proofs.fresh.Met as fresh
@@ -15,11 +23,11 @@ use Rattle.compare.proofs.agree.Met as compare_agree
 use Rattle.compare.proofs.longer.Met as compare_longer
 use Rattle.turns.proofs.piece_at.Met as piece_at
 use Rattle.turns.proofs.place_behind.Met as place_behind
-use Rattle.turns.proofs.over.Met as over
-use Rattle.turns.proofs.next.Met as next
-use Rattle.turns.proofs.moved.Met as moved
-use Rattle.turns.proofs.behind.Met as behind
-use Rattle.turns.proofs.first.Met as first
+use Rattle.turns.proofs.Turns.over.Met as over
+use Rattle.turns.proofs.Turns.next.Met as next
+use Rattle.turns.proofs.Turns.moved.Met as moved
+use Rattle.turns.proofs.Turns.behind.Met as behind
+use Rattle.turns.proofs.Turns.first.Met as first
 use Rattle.cues.proofs.add_cue.Met as add_cue
 use Rattle.cues.proofs.code_of.Met as code_of
 use Rattle.ports.proofs.night_fresh.Met as night_fresh
@@ -38,18 +46,28 @@ pub equals : {T : Ended} {call : Call} {O : Type 0} {seen : Seen T O} {given : G
     → Keeps T call (λ κs a r x. seen κs r x ≡ given κs a) → Equals T call seen given
 equals met = record { keeps = met; once = λ κs a r r' x x' p q. p ∙ sym q }
 
+-- a reply with the tables afterwards
+outcome_once : (before : List Rack) {o : Outcome} (r r' : Result (List Rack) Refusal) (cells logs decisions cells' logs' decisions' : List ℕ)
+    → outcome (reply_number r) cells logs decisions (reply_or before r) ≡ o
+    → outcome (reply_number r') cells' logs' decisions' (reply_or before r') ≡ o
+    → (r, (cells, (logs, decisions))) ≡ (r', (cells', (logs', decisions')))
+outcome_once before r r' cells logs decisions cells' logs' decisions' p q =
+    let e = p ∙ sym q in
+    let reply = same_reply before r r' (ap (λ (o : Outcome). o.number) e) (ap (λ (o : Outcome). o.card.racks) e) in
+    λ i. (reply i, ((e i).card.tables.cells.bytes, ((e i).card.tables.logs.bytes, (e i).card.tables.decisions)))
+
 pub fresh_once : calls.Fresh
-fresh_once = equals (λ M. fresh.met)
+fresh_once = record { keeps = λ M. fresh.met; once = λ κs a r r' x x' p q. outcome_once _ r r' _ _ _ _ _ _ p q }
 
 pub sound_once : calls.Sound
-sound_once = equals (λ M. sound.met)
+sound_once = record { keeps = λ M. sound.met; once = λ κs a r r' x x' p q. same_reply tt r r' (p ∙ sym q) refl }
 
 pub turn_once : calls.Turn
-turn_once = equals (λ M. turn.met)
+turn_once = record { keeps = λ M. turn.met; once = λ κs a r r' x x' p q. outcome_once _ r r' _ _ _ _ _ _ p q }
 
--- the enum, and with it the document's number and values, which are a function of it
+-- the answer, and with it the document's number and values, which are a function of it
 pub log_entry_once : calls.LogEntry
-log_entry_once = record { keeps = λ M. log_entry.met; once = λ κs a r r' x x' p q. p.1 ∙ sym q.1 }
+log_entry_once = record { keeps = λ M. log_entry.met; once = λ κs a r r' x x' p q. same_answer r r' (p.1 ∙ sym q.1) }
 
 pub agree_once : calls.Agree
 agree_once = equals (λ M. compare_agree.met)
@@ -90,10 +108,15 @@ pub behind_once : calls.Behind
 behind_once = record { keeps = λ M. behind.met; once = λ κs a r r' x x' p q. reader_once _ _ r r' p q }
 
 pub add_cue_once : calls.AddCue
-add_cue_once = equals (λ M. add_cue.met)
+add_cue_once = record {
+  keeps = λ M. add_cue.met;
+  once = λ κs a r r' x x' p q.
+      let e = p ∙ sym q in
+      λ i. (same_reply tt r r' (ap (λ (l : Listed). l.number) e) refl i, (e i).lists);
+}
 
 pub code_of_once : calls.CodeOf
-code_of_once = record { keeps = λ M. code_of.met; once = λ κs a r r' x x' p q. p.1 ∙ sym q.1 }
+code_of_once = record { keeps = λ M. code_of.met; once = λ κs a r r' x x' p q. same_answer r r' (p.1 ∙ sym q.1) }
 
 pub night_fresh_once : calls.NightFresh
 night_fresh_once = equals (λ M. night_fresh.met)

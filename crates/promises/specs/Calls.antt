@@ -1,14 +1,16 @@
 -- What each public call promises. A call's arguments stand in a pattern in the order of its signature, and so do its parameters at exit.
-use Rattle.std.specs.Prelude.{◌≡◌, List, ℕ}
+use Rattle.std.specs.Prelude.{◌≡◌, List, ℕ, replicate}
 use Rattle.std.specs.Borrow.{Bor}
 use prog.Wired.{Code}
 use mir.Syntax.{Callee}
 use Rattle.model.specs.declared.Size.{Size}
 use Rattle.model.specs.InUse.{logs_of, tables_of, card_of, outcome}
 use Rattle.model.specs.Turn.{turned, soundness}
-use Rattle.model.specs.Fresh.{filled}
-use Rattle.model.specs.Logs.{entry_number, entry_cue, queried, log_entry, agree, longer}
-use Rattle.model.specs.Cues.{Listed, add_cue, code_number, code_value, coded, code_of}
+use Rattle.model.specs.Fresh.{zero_rack, filled}
+use Rattle.model.specs.Record.{no_cue}
+use Rattle.model.specs.Refusal.{numbered, reply_number, reply_or}
+use Rattle.model.specs.Logs.{queried, log_entry, agree, longer}
+use Rattle.model.specs.Cues.{Listed, add_cue, coded, code_of}
 use Rattle.model.specs.Night.{piece_at}
 use Rattle.compare.specs.Itself.{longer_itself}
 use Rattle.turns.specs.declared.Turns.{Turns}
@@ -22,11 +24,11 @@ use Rattle.compare.specs.contracts.agree as compare_agree
 use Rattle.compare.specs.contracts.longer as compare_longer
 use Rattle.turns.specs.contracts.piece_at as piece_at_call
 use Rattle.turns.specs.contracts.place_behind as place_behind_call
-use Rattle.turns.specs.contracts.over as over
-use Rattle.turns.specs.contracts.next as next
-use Rattle.turns.specs.contracts.moved as moved
-use Rattle.turns.specs.contracts.behind as behind
-use Rattle.turns.specs.contracts.first as first
+use Rattle.turns.specs.contracts.Turns.over as over
+use Rattle.turns.specs.contracts.Turns.next as next
+use Rattle.turns.specs.contracts.Turns.moved as moved
+use Rattle.turns.specs.contracts.Turns.behind as behind
+use Rattle.turns.specs.contracts.Turns.first as first
 use Rattle.cues.specs.contracts.add_cue as add_cue_call
 use Rattle.cues.specs.contracts.code_of as code_of_call
 use Rattle.ports.specs.contracts.night_fresh as night_fresh
@@ -45,11 +47,11 @@ use Rattle.compare.proofs.agree as compare_agree_proved
 use Rattle.compare.proofs.longer as compare_longer_proved
 use Rattle.turns.proofs.piece_at as piece_at_proved
 use Rattle.turns.proofs.place_behind as place_behind_proved
-use Rattle.turns.proofs.over as over_proved
-use Rattle.turns.proofs.next as next_proved
-use Rattle.turns.proofs.moved as moved_proved
-use Rattle.turns.proofs.behind as behind_proved
-use Rattle.turns.proofs.first as first_proved
+use Rattle.turns.proofs.Turns.over as over_proved
+use Rattle.turns.proofs.Turns.next as next_proved
+use Rattle.turns.proofs.Turns.moved as moved_proved
+use Rattle.turns.proofs.Turns.behind as behind_proved
+use Rattle.turns.proofs.Turns.first as first_proved
 use Rattle.cues.proofs.add_cue as add_cue_proved
 use Rattle.cues.proofs.code_of as code_of_proved
 use Rattle.ports.proofs.night_fresh as night_fresh_proved
@@ -68,31 +70,36 @@ call code name = record { code = code; name = name }
 abbrev Bytes : Type 0
 Bytes = Bor (List ℕ)
 
--- all tables: the reply, the racks, and the three tables afterwards
+-- all tables: the reply with the racks, and the three tables afterwards
 abbrev pub Fresh : Type 2
 Fresh =
-    Equals fresh.ended (call fresh_proved.Symbol.code fresh_proved.Symbol.name)
-    (λ κs r (size, (cells, (logs, (decisions, _)))). outcome r.number cells.now logs.now decisions.now r.racks)
-    (λ κs (size, (cells, (logs, (decisions, _)))). filled size (tables_of cells.now logs.now decisions.now))
+    Promises fresh.ended (call fresh_proved.Symbol.code fresh_proved.Symbol.name)
+    (λ κs (size, (cells_before, (logs_before, (decisions_before, _)))) r (_, (cells, (logs, (decisions, _)))).
+    outcome (reply_number r) cells.now logs.now decisions.now (reply_or (replicate 8 zero_rack) r)
+    ≡ filled size (tables_of cells_before.now logs_before.now decisions_before.now))
+    (λ κs r (_, (cells, (logs, (decisions, _)))). (r, (cells.now, (logs.now, decisions.now))))
 
 abbrev pub Sound : Type 2
 Sound =
-    Equals sound.ended (call sound_proved.Symbol.code sound_proved.Symbol.name) (λ κs r x. r)
-    (λ κs (size, (cells, (logs, (decisions, (racks, _))))). soundness size (card_of cells.now logs.now decisions.now racks))
+    Promises sound.ended (call sound_proved.Symbol.code sound_proved.Symbol.name)
+    (λ κs (size, (cells, (logs, (decisions, (racks, _))))) r x. reply_number r ≡ soundness size (card_of cells.now logs.now decisions.now racks))
+    (λ κs r x. r)
 
 abbrev pub Turn : Type 2
 Turn =
-    Equals turn.ended (call turn_proved.Symbol.code turn_proved.Symbol.name)
-    (λ κs r (size, (cells, (logs, (decisions, _)))). outcome r.number cells.now logs.now decisions.now r.racks)
-    (λ κs (size, (cells, (logs, (decisions, (racks, (bytes, _)))))). turned size (card_of cells.now logs.now decisions.now racks) bytes.now)
+    Promises turn.ended (call turn_proved.Symbol.code turn_proved.Symbol.name)
+    (λ κs (size, (cells_before, (logs_before, (decisions_before, (racks, (bytes, _)))))) r (_, (cells, (logs, (decisions, _)))).
+    outcome (reply_number r) cells.now logs.now decisions.now (reply_or racks r)
+    ≡ turned size (card_of cells_before.now logs_before.now decisions_before.now racks) bytes.now)
+    (λ κs r (_, (cells, (logs, (decisions, _)))). (r, (cells.now, (logs.now, decisions.now))))
 
 -- logs
 abbrev pub LogEntry : Type 2
 LogEntry =
     Promises log_entry_call.ended (call log_entry_proved.Symbol.code log_entry_proved.Symbol.name)
     (λ κs (size, (logs, (rack, (lane, (place, _))))) r x.
-    (record { number = entry_number r; cue = entry_cue r } ≡ queried size (logs_of logs.now) rack lane place)
-    × (r ≡ log_entry size (logs_of logs.now) rack lane place))
+    (record { number = reply_number r; cue = reply_or no_cue r } ≡ queried size (logs_of logs.now) rack lane place)
+    × (numbered r ≡ log_entry size (logs_of logs.now) rack lane place))
     (λ κs r x. r)
 
 abbrev pub Agree : Type 2
@@ -141,16 +148,16 @@ listed number lists = record { number = number; lists = lists }
 
 abbrev pub AddCue : Type 2
 AddCue =
-    Equals add_cue_call.ended (call add_cue_proved.Symbol.code add_cue_proved.Symbol.name)
-    (λ κs r (racks, (lanes, (lists, _))). listed r lists.now)
-    (λ κs (racks, (lanes, (lists, (cue, _)))). add_cue racks lanes lists.now cue.now)
+    Promises add_cue_call.ended (call add_cue_proved.Symbol.code add_cue_proved.Symbol.name)
+    (λ κs (racks, (lanes, (lists_before, (cue, _)))) r (_, (_, (lists, _))). listed (reply_number r) lists.now ≡ add_cue racks lanes lists_before.now cue.now)
+    (λ κs r (_, (_, (lists, _))). (r, lists.now))
 
 abbrev pub CodeOf : Type 2
 CodeOf =
     Promises code_of_call.ended (call code_of_proved.Symbol.code code_of_proved.Symbol.name)
     (λ κs (racks, (lanes, (lists, (rack, (lane, (number, _)))))) r x.
-    (record { number = code_number r; code = code_value r } ≡ coded racks lanes lists.now rack lane number)
-    × (r ≡ code_of racks lanes lists.now rack lane number))
+    (record { number = reply_number r; code = reply_or 0 r } ≡ coded racks lanes lists.now rack lane number)
+    × (numbered r ≡ code_of racks lanes lists.now rack lane number))
     (λ κs r x. r)
 
 -- what a firmware links: each promise is one of any call of that signature, and so of the call of `ports` and of its export

@@ -6,7 +6,7 @@ use borrow.Author.Tests.{eq-eqb}
 use lib.ListN.{length}
 use Rattle.laws.proofs.Cases.{either, bool}
 use Rattle.model.specs.declared.Size.{Size}
-use Rattle.model.specs.declared.Entry.TheVariants.{Found, Refused}
+use Rattle.std.specs.Prelude.{Ok, Err}
 use Rattle.model.specs.Size.{size_up_to, log_records}
 use Rattle.model.specs.Form.{length_of}
 use Rattle.model.specs.Record.{entry_at}
@@ -18,7 +18,7 @@ use Rattle.steady.proofs.Turn.{Steady}
 
 pub entry_told_is : (s : Size) (c : Card) → Steady s c → size_up_to c.tables.logs.form.most s ≡ true → (rack lane place : ℕ)
     → log_entry s c.tables.logs rack lane place
-    ≡ cond (is_there s c.tables.logs rack lane place) (Found (entry_at c.tables.logs (log_start s rack lane + place))) (Refused 9)
+    ≡ cond (is_there s c.tables.logs rack lane place) (Ok (entry_at c.tables.logs (log_start s rack lane + place))) (Err 9)
 unfolding queried log_entry
 entry_told_is s c h kept rack lane place =
     let size = fits_size s c.tables h.fit in
