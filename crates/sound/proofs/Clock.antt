@@ -20,7 +20,7 @@ use Rattle.model.specs.Kind.{place_at, lane_at, steps_in, firsts_read, seconds_r
 use Rattle.model.specs.Sound.{sound_cells, sound_decisions, sound_logs, sound_tables, sound_clock, sound_first, sound_read_back, sound_written}
 use Rattle.model.proofs.Table.{row_below}
 use Rattle.cells.specs.Here.{Here}
-use Rattle.model.proofs.Sizes.{sizes}
+use Rattle.model.proofs.Sizes.{sizes, rows_most}
 use Rattle.kind.proofs.Places.{lane_at_below}
 use Rattle.sound.specs.Clocked.{Clocked}
 
@@ -54,6 +54,12 @@ pub first_there : (s : Size) (r : Rack) → sound_first s r ≡ true → 2 ≤ r
 unfolding sound_first
 first_there s r e h = ltb-true r.first s.lanes (rw (le-ltb r.step 2 h) at e)
 
+pub record Choice (s : Size) (r : Rack) : Type 0 where
+  pub round_low : 1 ≤ r.round
+  pub first : r.first < s.lanes
+  pub row : (r.round - 1) * s.lanes + r.first < s.rounds * s.lanes
+  pub rows : s.rounds * s.lanes ≤ 256
+
 module _ {s : Size} {cells : List ℕ} {r : Rack} (k : Clocked s cells r) where
   -- a cell of the present round
   pub here : (section lane rack : ℕ) → section < 3 → 1 ≤ r.step → lane < s.lanes → rack < s.racks → Here s cells section r.round lane rack
@@ -65,14 +71,18 @@ module _ {s : Size} {cells : List ℕ} {r : Rack} (k : Clocked s cells r) where
         spot = record { section_there = a; round_low = t.round_low; round_high = t.on h; lane_there = b; rack_there = d };
       }
 
-  pub choice_first : 2 ≤ r.step → r.first < s.lanes
-  choice_first h = first_there s r k.first_lane h
-
   -- the decision of the first lane
-  pub choice_row : 2 ≤ r.step → (r.round - 1) * s.lanes + r.first < s.rounds * s.lanes
-  choice_row h =
+  pub choice : 2 ≤ r.step → Choice s r
+  choice h =
       let t = clock s r k.clock in
-      row_below s r.round r.first t.round_low (t.on (omega arith)) (choice_first h)
+      let z = sizes s k.size in
+      let f = first_there s r k.first_lane h in
+      record {
+        round_low = t.round_low;
+        first = f;
+        row = row_below s r.round r.first t.round_low (t.on (omega arith)) f;
+        rows = rows_most s z;
+      }
 
   -- a source that is decided is there
   pub source_there : (decisions : List ℕ) → sound_decisions s decisions ≡ true → 2 ≤ r.step
@@ -80,30 +90,28 @@ module _ {s : Size} {cells : List ℕ} {r : Rack} (k : Clocked s cells r) where
   unfolding sound_decisions decision_index
   source_there decisions e h n =
       let d = decision_at s decisions r.round r.first in
-      let t = below_at (s.rounds * s.lanes) (λ i. eqb (get_or decisions i 0) undecided || ltb (get_or decisions i 0) s.racks) e _ (choice_row h) in
+      let t = below_at (s.rounds * s.lanes) (λ i. eqb (get_or decisions i 0) undecided || ltb (get_or decisions i 0) s.racks) e _ (choice h).row in
       ltb-true d s.racks (rw (ne_eqb d undecided n) at t)
 
   -- the lane of the present block
   pub lane_there : 2 ≤ r.step → lane_at s r < s.lanes
   lane_there h =
-      lane_at_below s r.first r.step (sizes s k.size).lanes_low (choice_first h) (clock s r k.clock).step_below
+      lane_at_below s r.first r.step (sizes s k.size).lanes_low (choice h).first (clock s r k.clock).step_below
 
-module _ (s : Size) (cells : Cells) (rack : ℕ) (r : Rack) where
-  -- nothing is read before the first block
-  place_start : r.step < 2 → place_at s r.step ≡ 0
-  unfolding place_at
-  place_start h =
-      let e : r.step - 2 ≡ 0 = omega arith in
-      rw e (zero-mod (block_steps s))
+module _ (s : Size) (r : Rack) where
+  -- a step of a block comes after the leading two
+  place_most : place_at s r.step ≤ r.step - 2
+  unfolding place_at block_steps
+  place_most = omega arith
 
-  pub back_idle : r.step < 2 → sound_read_back s cells rack r ≡ true
-  unfolding sound_read_back firsts_read seconds_read
-  back_idle h =
-      let e = place_start h in
-      rw (le-leb (firsts_read s r) rack (omega arith), le-leb (seconds_read s r) rack (omega arith))
+  pub firsts_begun : firsts_read s r ≤ r.step - 2
+  unfolding firsts_read
+  firsts_begun = omega (arith, place_most)
 
-  -- nothing is written before the first step
-  pub written_idle : (lane : ℕ) → r.step < 1 → sound_written s cells rack r lane ≡ true
-  unfolding sound_written steps_in
-  written_idle lane h =
-      rw (lt-ltb r.step 1 h, lt-ltb (steps_in s r lane) 1 (omega arith), lt-ltb (steps_in s r lane) (s.racks + 2) (omega arith))
+  pub seconds_begun : seconds_read s r ≤ r.step - 2
+  unfolding seconds_read
+  seconds_begun = omega (arith, place_most)
+
+  pub block_begun : (lane : ℕ) → steps_in s r lane ≤ r.step - 2
+  unfolding steps_in
+  block_begun lane = omega arith

@@ -1,2 +1,4 @@
+pub mod Each
 pub mod Extent
 pub mod Clock
+pub mod Zeros

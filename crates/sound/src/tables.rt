@@ -5,76 +5,63 @@ ghost use Rattle.laws.specs.Below.{below};
 ghost use Rattle.model.specs.Size.{size_fits, decisions_length};
 ghost use Rattle.model.specs.InUse.{cells_length, logs_length, tables_of, cells_of, logs_of};
 ghost use Rattle.model.specs.Record.{no_cue, same_cue, entry_at};
-ghost use Rattle.model.specs.Table.{undecided, log_length};
+ghost use Rattle.model.specs.Table.{undecided, section_of, log_length};
 ghost use Rattle.model.specs.Sound.{sound_cue, sound_record, sound_section, sound_cells, sound_decisions, sound_entries, sound_log, sound_logs, sound_tables};
 ghost use Rattle.model.proofs.Sizes.{Exact};
 
-use crate::values::{sound_cell, sound_cue, zero_cue};
-use model::{Size, logs};
+use crate::values::{sound_cell, sound_cue};
+use model::{Cue, Section, Size, logs};
 
 // A record of the cell table: "records marked 0 are all zeros and spare bytes are zero"
-fn sound_record(size: Size, cells: &[u8], section: usize, i: usize) -> bool
+#[tactic(auto, unfolding(model::specs::Sound::sound_record, model::specs::Form::record_at))]
+fn sound_record(size: Size, cells: &[u8], section: Section, i: usize) -> bool
     requires { (size_fits size ≡ true) × (8 * i + 8 ≤ length cells.now) }
-    ensures { result ≡ sound_record size (cells_of cells.now) section i }
+    ensures { result ≡ sound_record size (cells_of cells.now) (section_of section) i }
 {
-    let c = cells::load(cells, i);
-    let cell = sound_cell(size, section, c);
     let b = 8 * i;
-    let spare = cells[b + 6] == 0;
-    let last = cells[b + 7] == 0;
-    cell & (spare & last)
+    sound_cell(size, section, cells::load(cells, i)) && cells[b + 6] == 0 && cells[b + 7] == 0
 }
 
 // One of the "three sections (offers, first cells, second cells) of 8-byte records".
-fn sound_section(size: Size, cells: &[u8], section: usize) -> bool
-    requires { (size_fits size ≡ true) × ((length cells.now ≡ cells_length size) × (section < 3)) }
-    ensures { result ≡ sound_section size (cells_of cells.now) section }
+#[tactic(auto, using(crate::proofs::Extent::small, crate::proofs::Extent::section_inside), unfolding(model::specs::Sound::sound_section))]
+fn sound_section(size: Size, cells: &[u8], section: Section) -> bool
+    requires { (size_fits size ≡ true) × (length cells.now ≡ cells_length size) }
+    ensures { result ≡ sound_section size (cells_of cells.now) (section_of section) }
 {
     let count = size.rounds * size.lanes * size.racks;
-    let start = section * count;
-    let mut fine = true;
-    for i in 0..count {
-        let one = sound_record(size, cells, section, start + i);
-        fine = fine & one;
-    }
-    fine
+    let start = section.index() * count;
+    (start..start + count).all(|i| sound_record(size, cells, section, i))
 }
 
 // All three sections: "marks fit their section (0 or 1; 0 or 1; 0, 2 or 3)"
+#[tactic(auto, unfolding(model::specs::Sound::sound_cells))]
 fn sound_cells(size: Size, cells: &[u8]) -> bool
     requires { (size_fits size ≡ true) × (length cells.now ≡ cells_length size) }
     ensures { result ≡ sound_cells size (cells_of cells.now) }
 {
-    let offers = sound_section(size, cells, 0);
-    let firsts = sound_section(size, cells, 1);
-    let seconds = sound_section(size, cells, 2);
-    offers & (firsts & seconds)
+    sound_section(size, cells, Section::Offers)
+        && sound_section(size, cells, Section::FirstCells)
+        && sound_section(size, cells, Section::SecondCells)
 }
 
 // One decision: the winning source, or "255 if none"
 fn sound_decision(size: Size, source: u8) -> bool
     ensures { result ≡ (eqb source undecided || ltb source size.racks) }
 {
-    let none = source == 255;
-    let there = (source as usize) < size.racks;
-    none | there
+    source == 255 || usize::from(source) < size.racks
 }
 
 // "decisions are 255 or below n"
+#[tactic(auto, unfolding(model::specs::Sound::sound_decisions, model::specs::Size::decisions_length))]
 fn sound_decisions(size: Size, decisions: &[u8]) -> bool
     requires { (size_fits size ≡ true) × (length decisions.now ≡ decisions_length size) }
     ensures { result ≡ sound_decisions size decisions.now }
 {
-    let count = size.rounds * size.lanes;
-    let mut fine = true;
-    for i in 0..count {
-        let one = sound_decision(size, decisions[i]);
-        fine = fine & one;
-    }
-    fine
+    decisions.iter().all(|source| sound_decision(size, *source))
 }
 
 // "used entries have issuer below n and number 1 to R + 1, unused ones are zero"
+#[tactic(auto, unfolding(model::specs::Record::same_cue, model::specs::Form::spare_at))]
 fn sound_entry(size: Size, logs: &[u8], at: usize, used: bool) -> bool
     requires { (size_fits size ≡ true) × (2 * at + 2 ≤ length logs.now) }
     ensures { result
@@ -85,33 +72,29 @@ fn sound_entry(size: Size, logs: &[u8], at: usize, used: bool) -> bool
     if used {
         return sound_cue(size, c);
     }
-    zero_cue(c)
+    c == Cue::default()
 }
 
 // The R records of a log, of which the first `used` are.
+#[tactic(auto, unfolding(model::specs::Sound::sound_entries))]
 fn sound_entries(size: Size, logs: &[u8], start: usize, used: usize) -> bool
     requires { (size_fits size ≡ true) × (2 * (start + size.rounds) ≤ length logs.now) }
     ensures { result ≡ sound_entries size (logs_of logs.now) start used }
 {
-    let rounds = size.rounds;
-    let mut fine = true;
-    for i in 0..rounds {
-        let one = sound_entry(size, logs, start + i, i < used);
-        fine = fine & one;
-    }
-    fine
+    (0..size.rounds).all(|i| sound_entry(size, logs, start + i, i < used))
 }
 
 // "a log's length is the number of its records before the first zero one"
+#[tactic(auto, using(model::proofs::Start::log_fits))]
 pub fn log_length(size: Size, logs: &[u8], rack: usize, lane: usize) -> usize
     requires { (size_fits size ≡ true) × ((length logs.now ≡ logs_length size) × ((rack < size.racks) × (lane < size.lanes))) }
     ensures { result ≡ log_length size (logs_of logs.now) rack lane }
 {
-    let start = logs::log_start(size, rack, lane);
-    logs::length_from(logs, start, size.rounds)
+    logs::length_from(logs, logs::log_start(size, rack, lane), size.rounds)
 }
 
 // One log: "log length is at most R", since it is counted among its R records.
+#[tactic(auto, using(model::proofs::Start::log_fits), unfolding(model::specs::Sound::sound_log))]
 fn sound_log(size: Size, logs: &[u8], rack: usize, lane: usize) -> bool
     requires { (size_fits size ≡ true) × ((length logs.now ≡ logs_length size) × ((rack < size.racks) × (lane < size.lanes))) }
     ensures { result ≡ sound_log size (logs_of logs.now) rack lane }
@@ -126,36 +109,23 @@ fn sound_rack_logs(size: Size, logs: &[u8], rack: usize) -> bool
     requires { (size_fits size ≡ true) × ((length logs.now ≡ logs_length size) × (rack < size.racks)) }
     ensures { result ≡ below size.lanes (λ lane. sound_log size (logs_of logs.now) rack lane) }
 {
-    let lanes = size.lanes;
-    let mut fine = true;
-    for lane in 0..lanes {
-        let one = sound_log(size, logs, rack, lane);
-        fine = fine & one;
-    }
-    fine
+    (0..size.lanes).all(|lane| sound_log(size, logs, rack, lane))
 }
 
 // The logs of every rack.
+#[tactic(auto, unfolding(model::specs::Sound::sound_logs))]
 pub fn sound_logs(size: Size, logs: &[u8]) -> bool
     requires { (size_fits size ≡ true) × (length logs.now ≡ logs_length size) }
     ensures { result ≡ sound_logs size (logs_of logs.now) }
 {
-    let racks = size.racks;
-    let mut fine = true;
-    for rack in 0..racks {
-        let one = sound_rack_logs(size, logs, rack);
-        fine = fine & one;
-    }
-    fine
+    (0..size.racks).all(|rack| sound_rack_logs(size, logs, rack))
 }
 
 // The three lent tables.
+#[tactic(auto, unfolding(model::specs::Sound::sound_tables))]
 pub fn sound_tables(size: Size, cells: &[u8], logs: &[u8], decisions: &[u8]) -> bool
     requires { Exact size (tables_of cells.now logs.now decisions.now) }
     ensures { result ≡ sound_tables size (tables_of cells.now logs.now decisions.now) }
 {
-    let c = sound_cells(size, cells);
-    let d = sound_decisions(size, decisions);
-    let l = sound_logs(size, logs);
-    c & (d & l)
+    sound_cells(size, cells) && sound_decisions(size, decisions) && sound_logs(size, logs)
 }

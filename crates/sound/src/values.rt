@@ -1,100 +1,64 @@
 // A cue, a value and a cell: zeros, or in their ranges.
 ghost use Rattle.std.specs.Prelude.{◌≡◌, true, cond, eqb};
 ghost use Rattle.model.specs.Size.{size_fits};
-ghost use Rattle.model.specs.Record.{no_cue, no_value, no_cell, same_cue, same_value, same_cell};
+ghost use Rattle.model.specs.Record.{no_cue, same_cue};
+ghost use Rattle.model.specs.Table.{section_of};
 ghost use Rattle.model.specs.Sound.{mark_fits, sound_cue, sound_value, sound_cell};
 
-use model::{Cell, Cue, Size, Value};
-
-// Whether a cue is zeros.
-pub fn zero_cue(c: Cue) -> bool
-    ensures { result ≡ same_cue c no_cue }
-{
-    let issuer = c.issuer == 0;
-    let number = c.number == 0;
-    issuer & number
-}
-
-// Whether a value is zeros.
-pub fn zero_value(v: Value) -> bool
-    ensures { result ≡ same_value v no_value }
-{
-    let c = v.cue;
-    let p = v.previous;
-    let place = v.place == 0;
-    let cue = zero_cue(c);
-    let previous = zero_cue(p);
-    place & (cue & previous)
-}
-
-// Whether a cell is zeros.
-pub fn zero_cell(c: Cell) -> bool
-    ensures { result ≡ same_cell c no_cell }
-{
-    let v = c.value;
-    let mark = c.mark == 0;
-    let value = zero_value(v);
-    mark & value
-}
+use model::{Cell, Cue, Section, Size, Value};
 
 // "issuers are below n, number is 1 to R + 1"
+#[tactic(auto, using(model::proofs::Sizes::sizes), unfolding(model::specs::Sound::sound_cue))]
 pub fn sound_cue(size: Size, c: Cue) -> bool
     requires { size_fits size ≡ true }
     ensures { result ≡ sound_cue size c }
 {
-    let n = c.number as usize;
-    let issuer = (c.issuer as usize) < size.racks;
-    let low = 1 <= n;
-    let high = n <= size.rounds + 1;
-    issuer & (low & high)
+    let number = usize::from(c.number);
+    usize::from(c.issuer) < size.racks && 1 <= number && number <= size.rounds + 1
 }
 
 // "the previous pair keeps the same ranges, but is 0 and 0 exactly at place 0"
+#[tactic(auto, unfolding(model::specs::Record::same_cue))]
 fn sound_previous(size: Size, place: u8, c: Cue) -> bool
     requires { size_fits size ≡ true }
     ensures { result ≡ cond (eqb place 0) (same_cue c no_cue) (sound_cue size c) }
 {
     if place == 0 {
-        return zero_cue(c);
+        return c == Cue::default();
     }
     sound_cue(size, c)
 }
 
 // "in a value place is at most R, issuers are below n, number is 1 to R + 1, and the previous pair keeps the same ranges"
+#[tactic(auto, unfolding(model::specs::Sound::sound_value))]
 pub fn sound_value(size: Size, v: Value) -> bool
     requires { size_fits size ≡ true }
     ensures { result ≡ sound_value size v }
 {
-    let c = v.cue;
-    let p = v.previous;
-    let place = (v.place as usize) <= size.rounds;
-    let cue = sound_cue(size, c);
-    let previous = sound_previous(size, v.place, p);
-    place & (cue & previous)
+    usize::from(v.place) <= size.rounds
+        && sound_cue(size, v.cue)
+        && sound_previous(size, v.place, v.previous)
 }
 
 // "marks fit their section (0 or 1; 0 or 1; 0, 2 or 3)": those of a cell that is not empty
-fn mark_fits(section: usize, mark: u8) -> bool
-    ensures { result ≡ mark_fits section mark }
+#[tactic(auto, unfolding(model::specs::Sound::mark_fits))]
+fn mark_fits(section: Section, mark: u8) -> bool
+    ensures { result ≡ mark_fits (section_of section) mark }
 {
-    if section == 2 {
-        let adopted = mark == 2;
-        let committed = mark == 3;
-        return adopted | committed;
+    match section {
+        Section::Offers | Section::FirstCells => mark == 1,
+        Section::SecondCells => mark == 2 || mark == 3,
     }
-    mark == 1
 }
 
 // "records marked 0 are all zeros"
-pub fn sound_cell(size: Size, section: usize, c: Cell) -> bool
+#[tactic(auto, unfolding(model::specs::Sound::sound_cell, model::specs::Record::same_cue, model::specs::Record::same_value))]
+pub fn sound_cell(size: Size, section: Section, c: Cell) -> bool
     requires { size_fits size ≡ true }
-    ensures { result ≡ sound_cell size section c }
+    ensures { result ≡ sound_cell size (section_of section) c }
 {
-    let v = c.value;
-    if c.mark == 0 {
-        return zero_value(v);
+    if c.is_empty() {
+        return c.value == Value::default();
     }
-    let mark = mark_fits(section, c.mark);
-    let value = sound_value(size, v);
-    mark & value
+    mark_fits(section, c.mark) && sound_value(size, c.value)
 }

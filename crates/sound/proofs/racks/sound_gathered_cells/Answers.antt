@@ -1,11 +1,16 @@
--- The invariant: every cell passed is sound, or zeros if not yet read.
-use native.Mathlib.Numerals.{add-one}
-use native.Mathlib.Nat.{le_antisymm}
+-- The test of each cell.
+use mathlib.Core.Bool.{cond}
 use borrow.Author.Rules.{rules}
+use lib.Dec.{ltb}
+use lib.ListN.{get_or}
+use Rattle.model.specs.Record.{no_cell, same_cell}
+use Rattle.model.specs.Table.{section_of}
+use Rattle.model.specs.Sound.{sound_cell}
+use Rattle.sound.proofs.Each.{all_below}
 use Rattle.sound.proofs.racks.sound_gathered_cells.Goals as goal
 
-pub loop-i-preserved : goal.loop-i-preserved
-loop-i-preserved c = (search rules, rw (add-one, c.sound_gathered_cell-one.ensures, c.loop-i.invariant.1))
-
 pub returns : goal.returns
-returns c = rw (le_antisymm c.loop-i.invariant.0 c.loop-i-test.false) at c.loop-i.invariant.1
+returns c =
+    let a = c.args in
+    all_below (λ i. cond (ltb i a.read) (sound_cell a.size (section_of a.section) (get_or a.gathered i no_cell)) (same_cell (get_or a.gathered i no_cell) no_cell)) 8
+    c.all.ensures.ran (λ x b q k. search rules)

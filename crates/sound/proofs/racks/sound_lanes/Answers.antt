@@ -1,11 +1,11 @@
--- The invariant: every lane passed is sound.
-use native.Mathlib.Numerals.{add-one}
-use native.Mathlib.Nat.{le_antisymm}
+-- The test of each lane.
 use borrow.Author.Rules.{rules}
+use Rattle.model.specs.InUse.{cells_of, logs_of}
+use Rattle.model.specs.Sound.{sound_lane}
+use Rattle.sound.proofs.Each.{all_below}
 use Rattle.sound.proofs.racks.sound_lanes.Goals as goal
 
-pub loop-lane-preserved : goal.loop-lane-preserved
-loop-lane-preserved c = (search rules, rw (add-one, c.sound_lane-one.ensures, c.loop-lane.invariant.1))
-
 pub returns : goal.returns
-returns c = rw (le_antisymm c.loop-lane.invariant.0 c.loop-lane-test.false) at c.loop-lane.invariant.1
+returns c =
+    let a = c.args in
+    all_below (sound_lane a.size (cells_of a.cells.now) (logs_of a.logs.now) a.rack a.r) 4 c.all.ensures.ran (λ x b q k. search rules)

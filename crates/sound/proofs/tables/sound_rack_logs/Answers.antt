@@ -1,11 +1,7 @@
--- The invariant: the log of every lane passed is sound.
-use native.Mathlib.Numerals.{add-one}
-use native.Mathlib.Nat.{le_antisymm}
+-- The test of each lane.
 use borrow.Author.Rules.{rules}
+use Rattle.sound.proofs.Each.{all_below}
 use Rattle.sound.proofs.tables.sound_rack_logs.Goals as goal
 
-pub loop-lane-preserved : goal.loop-lane-preserved
-loop-lane-preserved c = (search rules, rw (add-one, c.sound_log-one.ensures, c.loop-lane.invariant.1))
-
 pub returns : goal.returns
-returns c = rw (le_antisymm c.loop-lane.invariant.0 c.loop-lane-test.false) at c.loop-lane.invariant.1
+returns c = all_below _ c.args.size.lanes c.all.ensures.ran (λ x b q k. search rules)

@@ -1,39 +1,25 @@
--- The invariant: every record passed is sound.
+-- The test of each record.
+use mathlib.Core.Path.{ap, ◌∙◌}
+use Prim.Native.Nat.{ℕ, ◌+◌, ◌*◌}
 use native.Mathlib.Omega.{arith}
-use native.Mathlib.Numerals.{add-one}
-use native.Mathlib.Nat.{le_antisymm}
 use borrow.Author.Rules.{rules}
-use Rattle.model.specs.Sound.{sound_section}
-use Rattle.sound.proofs.Extent.{extent, section_start, section_fits}
+use Rattle.std.proofs.iter.Serving.{serving}
+use Rattle.laws.specs.Below.{below}
+use Rattle.model.specs.Size.{records}
+use Rattle.model.specs.InUse.{cells_of}
+use Rattle.model.specs.Table.{section_of}
+use Rattle.model.specs.Sound.{sound_record, sound_section}
+use Rattle.sound.proofs.Each.{all_from}
+use Rattle.sound.proofs.Extent.{small, section_inside}
 use Rattle.sound.proofs.tables.sound_section.Goals as goal
 
-pub overflow_mul-count : goal.overflow_mul-count
-overflow_mul-count c = omega (arith, extent _ c.requires.0)
-
-pub overflow_mul-count-2 : goal.overflow_mul-count-2
-overflow_mul-count-2 c = omega (arith, extent _ c.requires.0)
-
-pub overflow_mul-start : goal.overflow_mul-start
-overflow_mul-start c =
-    let pre = c.requires in
-    omega (arith, section_start _ pre.0 _ pre.1.1)
-
-pub overflow_add-start : goal.overflow_add-start
-overflow_add-start c =
-    let pre = c.requires in
-    omega (arith, section_start _ pre.0 _ pre.1.1, extent _ pre.0)
-
-pub sound_record-one-requires : goal.sound_record-one-requires
-sound_record-one-requires c =
-    let pre = c.requires in
-    (pre.0, omega (arith, section_fits _ pre.0 _ _ pre.1.1 c.loop-i-test.true))
-
-pub overflow_step-i : goal.overflow_step-i
-overflow_step-i c = omega (arith, extent _ c.requires.0)
-
-pub loop-i-preserved : goal.loop-i-preserved
-loop-i-preserved c = (search rules, rw (add-one, c.sound_record-one.ensures, c.loop-i.invariant.1))
+pub all-requires-clause-callable : goal.all-requires-clause-callable
+all-requires-clause-callable c = grind (serving, small, section_inside)
 
 pub returns : goal.returns
 unfolding sound_section
-returns c = rw (le_antisymm c.loop-i.invariant.0 c.loop-i-test.false) at c.loop-i.invariant.1
+returns c =
+    let a = c.args in
+    let n = records a.size in
+    let test = sound_record a.size (cells_of a.cells.now) (section_of a.section) in
+    all_from test (c.index.result * n) n c.all.ensures.ran (λ x b q k. search rules) ∙ ap (λ (k : ℕ). below n (λ i. test (k * n + i))) c.index.ensures
