@@ -5,11 +5,9 @@ use mathlib.Core.List.{List}
 use mathlib.Core.Bool.{true, ◌&&◌, ◌||◌}
 use Prim.Native.Nat.{ℕ, ◌+◌, ◌*◌, ◌-◌, ◌≤◌, ◌<◌}
 use native.Mathlib.Omega.{arith}
-use native.Mathlib.Nat.{zero-mod}
 use lib.Dec.{eqb, ltb, leb}
 use lib.ListN.{get_or}
-use borrow.Author.Tests.{ltb-true, leb-true, eqb-true, lt-ltb, le-ltb, le-leb, ne_eqb}
-use Rattle.model.specs.Record.{Cells}
+use borrow.Author.Tests.{ltb-true, leb-true, eqb-true, le-ltb, ne_eqb}
 use Rattle.laws.proofs.Cases.{either, and_true, or_true}
 use Rattle.laws.proofs.Below.{below_at}
 use Rattle.model.specs.declared.Size.{Size}
@@ -17,7 +15,7 @@ use Rattle.model.specs.declared.Rack.{Rack}
 use Rattle.model.specs.Size.{within, round_steps, block_steps}
 use Rattle.model.specs.Table.{Tables, undecided, decision_index, decision_at}
 use Rattle.model.specs.Kind.{place_at, lane_at, steps_in, firsts_read, seconds_read}
-use Rattle.model.specs.Sound.{sound_cells, sound_decisions, sound_logs, sound_tables, sound_clock, sound_first, sound_read_back, sound_written}
+use Rattle.model.specs.Sound.{sound_cells, sound_decisions, sound_logs, sound_tables, sound_clock, sound_first}
 use Rattle.model.proofs.Table.{row_below}
 use Rattle.cells.specs.Here.{Here}
 use Rattle.model.proofs.Sizes.{sizes, rows_most}
@@ -115,3 +113,6 @@ module _ (s : Size) (r : Rack) where
   pub block_begun : (lane : ℕ) → steps_in s r lane ≤ r.step - 2
   unfolding steps_in
   block_begun lane = omega arith
+
+-- where a rack whose clock and first lane are sound stands: what is looked at there is there
+pub ruleset present = (sizes, clock, here, choice, source_there, lane_there, firsts_begun, seconds_begun, block_begun)

@@ -1,7 +1,7 @@
 -- The products of the sizes are small, and each section of the cell table lies in it.
 use mathlib.Core.Path.{◌≡◌}
 use mathlib.Core.Bool.{true}
-use Prim.Native.Nat.{ℕ, ◌+◌, ◌*◌, ◌≤◌, ◌<◌}
+use Prim.Native.Nat.{◌+◌, ◌*◌, ◌≤◌, ◌<◌}
 use native.Mathlib.Omega.{arith}
 use Rattle.laws.proofs.Index.{rows_below}
 use Rattle.model.specs.declared.Size.{Size}

@@ -22,7 +22,7 @@ pub fn sound_logs(size: Size, logs: &[u8]) -> bool
 }
 
 // The tables and the eight racks. The tables come first: a decision says whose offer a rack's first lane rests on.
-#[tactic(auto, using(crate::proofs::Clock::decisions_tested), unfolding(model::specs::Sound::sound))]
+#[tactic(auto, unfolding(model::specs::Sound::sound))]
 pub fn sound(size: Size, cells: &[u8], logs: &[u8], decisions: &[u8], racks: [Rack; 8]) -> bool
     requires { Exact size (tables_of cells.now logs.now decisions.now) }
     ensures { result ≡ sound size (card_of cells.now logs.now decisions.now racks) }

@@ -23,8 +23,7 @@ fn sound_clock(size: Size, r: Rack) -> bool
     ensures { result ≡ sound_clock size r }
 {
     let round = usize::from(r.round);
-    1 <= round
-        && round <= size.rounds + 1
+    (1..=size.rounds + 1).contains(&round)
         && (round <= size.rounds || r.step == 0)
         && usize::from(r.step) < kind::round_steps(size)
 }
@@ -58,7 +57,10 @@ fn sound_gathered_cells(size: Size, section: Section, read: usize, gathered: [Ce
     ensures { result ≡ below 8 (λ i. cond (ltb i read)
         (sound_cell size (section_of section) (get_or gathered i no_cell)) (same_cell (get_or gathered i no_cell) no_cell)) }
 {
-    (0..8).all(|i| sound_gathered_cell(size, section, i < read, gathered[i]))
+    gathered
+        .iter()
+        .enumerate()
+        .all(|(i, c)| sound_gathered_cell(size, section, i < read, *c))
 }
 
 // The first and the second cells gathered.
@@ -96,7 +98,7 @@ fn holds_value(
 }
 
 // "a rack's first lane is decided, for a source whose offer there is not empty"
-#[tactic(auto, using(crate::proofs::Clock::clock, crate::proofs::Clock::choice, crate::proofs::Clock::here, crate::proofs::Clock::source_there), unfolding(model::specs::Sound::sound_choice, model::specs::Table::decision_index, model::specs::Size::decisions_length))]
+#[tactic(auto, using(crate::proofs::Clock::present), unfolding(model::specs::Sound::sound_choice, model::specs::Table::decision_index, model::specs::Size::decisions_length))]
 fn sound_choice(size: Size, cells: &[u8], decisions: &[u8], r: Rack) -> bool
     requires { Clocked size cells.now r × ((length decisions.now ≡ decisions_length size) × (sound_decisions size decisions.now ≡ true)) }
     ensures { result ≡ sound_choice size (cells_of cells.now) decisions.now r }
@@ -106,53 +108,26 @@ fn sound_choice(size: Size, cells: &[u8], decisions: &[u8], r: Rack) -> bool
     }
     let round = usize::from(r.round);
     let first = usize::from(r.first);
-    let source = decisions[(round - 1) * size.lanes + first];
-    source != 255
-        && holds_value(
-            size,
-            cells,
-            Section::Offers,
-            round,
-            first,
-            usize::from(source),
-        )
-}
-
-// Whether a cell that a rack gathered from itself equals the one in the table.
-#[tactic(auto, unfolding(model::specs::Record::same_cue, model::specs::Record::same_value, model::specs::Record::same_cell))]
-fn same_as_own(
-    size: Size,
-    cells: &[u8],
-    section: Section,
-    round: usize,
-    lane: usize,
-    rack: usize,
-    c: Cell,
-) -> bool
-    requires { Here size cells.now (section_of section) round lane rack }
-    ensures { result ≡ same_cell c (read_cell size (cells_of cells.now) (section_of section) round lane rack) }
-{
-    c == cells::read(cells, size, section, round, lane, rack)
+    let source = usize::from(decisions[(round - 1) * size.lanes + first]);
+    source != 255 && holds_value(size, cells, Section::Offers, round, first, source)
 }
 
 // "what it read back from itself equals them"
-#[tactic(auto, using(model::proofs::Sizes::sizes, crate::proofs::Clock::here, crate::proofs::Clock::lane_there, crate::proofs::Clock::firsts_begun, crate::proofs::Clock::seconds_begun), unfolding(model::specs::Sound::sound_read_back))]
+#[tactic(auto, using(crate::proofs::Clock::present), unfolding(model::specs::Sound::sound_read_back, model::specs::Record::same_cue, model::specs::Record::same_value, model::specs::Record::same_cell))]
 fn sound_read_back(size: Size, cells: &[u8], rack: usize, r: Rack) -> bool
     requires { Clocked size cells.now r × (rack < size.racks) }
     ensures { result ≡ sound_read_back size (cells_of cells.now) rack r }
 {
     let round = usize::from(r.round);
     let lane = kind::lane_at(size, r);
-    let first = r.firsts[rack];
-    let second = r.seconds[rack];
     (kind::firsts_read(size, r) <= rack
-        || same_as_own(size, cells, Section::FirstCells, round, lane, rack, first))
+        || r.firsts[rack] == cells::read(cells, size, Section::FirstCells, round, lane, rack))
         && (kind::seconds_read(size, r) <= rack
-            || same_as_own(size, cells, Section::SecondCells, round, lane, rack, second))
+            || r.seconds[rack] == cells::read(cells, size, Section::SecondCells, round, lane, rack))
 }
 
 // "in its present round the cells a rack has written hold a value"
-#[tactic(auto, using(model::proofs::Sizes::sizes, crate::proofs::Clock::here, crate::proofs::Clock::block_begun), unfolding(model::specs::Sound::sound_written))]
+#[tactic(auto, using(crate::proofs::Clock::present), unfolding(model::specs::Sound::sound_written))]
 fn sound_written(size: Size, cells: &[u8], rack: usize, r: Rack, lane: usize) -> bool
     requires { Clocked size cells.now r × ((rack < size.racks) × (lane < size.lanes)) }
     ensures { result ≡ sound_written size (cells_of cells.now) rack r lane }
@@ -245,7 +220,6 @@ fn sound_rack(size: Size, cells: &[u8], logs: &[u8], decisions: &[u8], rack: usi
 }
 
 // "Unused racks .. are zeros."
-#[tactic(auto, unfolding(model::specs::Sound::unused_rack, model::specs::Record::same_cue, model::specs::Record::same_value, model::specs::Record::same_cell))]
 fn unused_rack(r: Rack) -> bool
     ensures { result ≡ unused_rack r }
 {
@@ -272,7 +246,6 @@ fn sound_state(
 }
 
 // "one fixed array of eight, of which n are used"
-#[tactic(auto, unfolding(model::specs::Sound::sound_racks))]
 pub fn sound_racks(
     size: Size,
     cells: &[u8],
@@ -283,5 +256,5 @@ pub fn sound_racks(
     requires { Exact size (tables_of cells.now logs.now decisions.now) × (sound_decisions size decisions.now ≡ true) }
     ensures { result ≡ sound_racks size (card_of cells.now logs.now decisions.now racks) }
 {
-    (0..8).all(|rack| sound_state(size, cells, logs, decisions, rack, racks[rack]))
+    racks.iter().enumerate().all(|(rack, r)| sound_state(size, cells, logs, decisions, rack, *r))
 }

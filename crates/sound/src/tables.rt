@@ -23,7 +23,7 @@ fn sound_record(size: Size, cells: &[u8], section: Section, i: usize) -> bool
 }
 
 // One of the "three sections (offers, first cells, second cells) of 8-byte records".
-#[tactic(auto, using(crate::proofs::Extent::small, crate::proofs::Extent::section_inside), unfolding(model::specs::Sound::sound_section))]
+#[tactic(auto, using(crate::proofs::Extent::small, crate::proofs::Extent::section_inside))]
 fn sound_section(size: Size, cells: &[u8], section: Section) -> bool
     requires { (size_fits size ≡ true) × (length cells.now ≡ cells_length size) }
     ensures { result ≡ sound_section size (cells_of cells.now) (section_of section) }
@@ -52,7 +52,6 @@ fn sound_decision(size: Size, source: u8) -> bool
 }
 
 // "decisions are 255 or below n"
-#[tactic(auto, unfolding(model::specs::Sound::sound_decisions, model::specs::Size::decisions_length))]
 fn sound_decisions(size: Size, decisions: &[u8]) -> bool
     requires { (size_fits size ≡ true) × (length decisions.now ≡ decisions_length size) }
     ensures { result ≡ sound_decisions size decisions.now }
@@ -76,7 +75,6 @@ fn sound_entry(size: Size, logs: &[u8], at: usize, used: bool) -> bool
 }
 
 // The R records of a log, of which the first `used` are.
-#[tactic(auto, unfolding(model::specs::Sound::sound_entries))]
 fn sound_entries(size: Size, logs: &[u8], start: usize, used: usize) -> bool
     requires { (size_fits size ≡ true) × (2 * (start + size.rounds) ≤ length logs.now) }
     ensures { result ≡ sound_entries size (logs_of logs.now) start used }
@@ -113,7 +111,6 @@ fn sound_rack_logs(size: Size, logs: &[u8], rack: usize) -> bool
 }
 
 // The logs of every rack.
-#[tactic(auto, unfolding(model::specs::Sound::sound_logs))]
 pub fn sound_logs(size: Size, logs: &[u8]) -> bool
     requires { (size_fits size ≡ true) × (length logs.now ≡ logs_length size) }
     ensures { result ≡ sound_logs size (logs_of logs.now) }

@@ -14,7 +14,7 @@ pub fn sound_cue(size: Size, c: Cue) -> bool
     ensures { result ≡ sound_cue size c }
 {
     let number = usize::from(c.number);
-    usize::from(c.issuer) < size.racks && 1 <= number && number <= size.rounds + 1
+    usize::from(c.issuer) < size.racks && (1..=size.rounds + 1).contains(&number)
 }
 
 // "the previous pair keeps the same ranges, but is 0 and 0 exactly at place 0"

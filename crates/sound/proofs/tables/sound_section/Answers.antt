@@ -1,7 +1,6 @@
 -- The test of each record.
 use mathlib.Core.Path.{ap, ◌∙◌}
 use Prim.Native.Nat.{ℕ, ◌+◌, ◌*◌}
-use native.Mathlib.Omega.{arith}
 use borrow.Author.Rules.{rules}
 use Rattle.std.proofs.iter.Serving.{serving}
 use Rattle.laws.specs.Below.{below}
