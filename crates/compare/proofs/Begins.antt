@@ -1,33 +1,24 @@
--- That one list is a beginning of the other, with some elements of both passed.
-use mathlib.Core.Path.{◌≡◌, refl, ◌∙◌}
+-- That one list begins with the other, as `starts_with` tests it: the one against as many of the other's first elements.
+use mathlib.Core.Path.{◌≡◌, refl, sym}
+use mathlib.Core.Bool.{Bool, true, false, ◌&&◌, ◌||◌}
 use mathlib.Core.List.{List, [], ◌∷◌}
-use mathlib.Core.Bool.{true, false, ◌&&◌}
-use Prim.Native.Nat.{ℕ, suc, ◌+◌, ◌≤◌, ◌<◌}
-use native.Mathlib.Numerals.{add-one}
-use borrow.Author.Tests.{eq-eqb, ne_eqb}
+use native.Mathlib.Omega.{arith}
+use Prim.Native.Nat.{ℕ}
 use lib.Dec.{eqb}
-use lib.ListN.{length, get_or, drop, drop_of_length-le}
-use lib.Seq.{drop-cons}
+use Rattle.std.specs.List.{starts_with}
+use Rattle.std.proofs.lemmas.Bool.Decides.{nat_tests}
+use Rattle.laws.proofs.Cases.{or_right}
 use Rattle.model.specs.Logs.{one_begins}
 
--- the empty list is a beginning
-begins_nil : (a : List ℕ) → one_begins a [] ≡ true
-begins_nil [] = refl
-begins_nil (x ∷ a) = refl
+turned : (x y : ℕ) → eqb y x ≡ eqb x y
+turned x y = grind (arith, nat_tests)
 
-module _ (a b : List ℕ) (i : ℕ) where
-  pub first_passed : length a ≤ i → one_begins (drop i a) (drop i b) ≡ true
-  first_passed h = rw (drop_of_length-le a h)
+-- a test in front of both sides of an `||`
+shared : (t p q : Bool) → t && (p || q) ≡ (t && p) || (t && q)
+shared true p q = refl
+shared false p q = refl
 
-  pub second_passed : length b ≤ i → one_begins (drop i a) (drop i b) ≡ true
-  second_passed h = rw (drop_of_length-le b h) (begins_nil (drop i a))
-
-  module _ (p : i < length a) (q : i < length b) where
-    one_more : one_begins (drop i a) (drop i b) ≡ eqb (get_or a i 0) (get_or b i 0) && one_begins (drop (suc i) a) (drop (suc i) b)
-    one_more = rw (drop-cons a i 0, drop-cons b i 0)
-
-    pub same_next : get_or a i 0 ≡ get_or b i 0 → one_begins (drop i a) (drop i b) ≡ one_begins (drop (i + 1) a) (drop (i + 1) b)
-    same_next e = one_more ∙ rw (add-one, eq-eqb (get_or a i 0) (get_or b i 0) e)
-
-    pub other_next : (get_or a i 0 ≡ get_or b i 0 → ⊥) → one_begins (drop i a) (drop i b) ≡ false
-    other_next n = one_more ∙ rw (ne_eqb (get_or a i 0) (get_or b i 0) n)
+pub begins : (a b : List ℕ) → one_begins a b ≡ (starts_with eqb a b || starts_with eqb b a)
+begins [] b = sym (or_right (starts_with eqb [] b) refl)
+begins (x ∷ a) [] = refl
+begins (x ∷ a) (y ∷ b) = rw (turned x y, begins a b) (shared (eqb x y) _ _)

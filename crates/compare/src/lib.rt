@@ -6,42 +6,28 @@ ghost use Rattle.model.specs.Logs.{one_begins, agree, longer};
 ghost use Rattle.compare.specs.Itself.{longer_itself};
 
 // "one is a beginning of the other"
+#[tactic(auto, using(crate::proofs::Begins::begins))]
 fn one_begins(a: &[u8], b: &[u8]) -> bool
     ensures { result ≡ one_begins a.now b.now }
 {
-    let mut i: usize = 0;
-    while i < a.len() {
-        if b.len() <= i {
-            return true;
-        }
-        if a[i] != b[i] {
-            return false;
-        }
-        i += 1;
-    }
-    true
+    a.starts_with(b) || b.starts_with(a)
 }
 
 // "Two logs given as bytes agree when both lengths are even and one is a beginning of the other."
+#[tactic(auto, unfolding(model::specs::Logs::agree))]
 pub fn agree(a: &[u8], b: &[u8]) -> bool
     ensures { result ≡ agree a.now b.now }
 {
-    let begins = one_begins(a, b);
-    let first = a.len() % 2 == 0;
-    let second = b.len() % 2 == 0;
-    first & (second & begins)
+    a.len() % 2 == 0 && b.len() % 2 == 0 && one_begins(a, b)
 }
 
 // "A second call hands back the longer log itself, the first if equal, and an empty part of the first if they don't agree."
+#[tactic(auto, unfolding(model::specs::Logs::longer, crate::specs::Itself::longer_itself))]
 pub fn longer<'a>(a: &'a [u8], b: &'a [u8]) -> &'a [u8]
     ensures { (result.now ≡ longer a.now b.now) × (result ≡ longer_itself a.entry b.entry) }
 {
-    let agreeing = agree(a, b);
-    if agreeing {
-        if a.len() < b.len() {
-            return b;
-        }
-        return a;
+    if !agree(a, b) {
+        return &a[..0];
     }
-    &a[..0]
+    if a.len() < b.len() { b } else { a }
 }

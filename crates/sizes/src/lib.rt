@@ -1,5 +1,5 @@
 // Test 1: sizes in range and lent lengths exact.
-#![tactic(auto)]
+#![tactic(auto, using(model::proofs::Sizes::sizes, model::proofs::Sizes::rows_most, model::proofs::Sizes::records_most), unfolding(model::specs::Size::size_up_to, model::specs::Size::cell_records, model::specs::Size::log_records, model::specs::Size::decisions_length, crate::specs::Lengths::lengths_fit, crate::specs::Lengths::logs_fit))]
 
 ghost use Rattle.std.specs.Prelude.{◌≡◌, true};
 ghost use Rattle.model.specs.Size.{size_fits, records};
@@ -11,13 +11,9 @@ use model::Size;
 pub fn size_fits(size: Size) -> bool
     ensures { result ≡ size_fits size }
 {
-    let a = 1 <= size.racks;
-    let b = size.racks <= 8;
-    let c = 1 <= size.lanes;
-    let d = size.lanes <= 4;
-    let e = 1 <= size.rounds;
-    let f = size.rounds <= 64;
-    (a & b) & ((c & d) & (e & f))
+    (1..=8).contains(&size.racks)
+        && (1..=4).contains(&size.lanes)
+        && (1..=64).contains(&size.rounds)
 }
 
 // How many records a section of the cell table has, and the log table.
@@ -32,25 +28,12 @@ pub fn records(size: Size) -> usize
 pub fn lengths_fit(size: Size, cells: usize, logs: usize, decisions: usize) -> bool
     ensures { result ≡ lengths_fit size cells logs decisions }
 {
-    let fine = size_fits(size);
-    if !fine {
-        return false;
-    }
-    let count = records(size);
-    let a = cells == 24 * count;
-    let b = logs == 2 * count;
-    let c = decisions == size.rounds * size.lanes;
-    a & (b & c)
+    logs_fit(size, logs) && cells == 24 * records(size) && decisions == size.rounds * size.lanes
 }
 
 // The sizes in range, and the length of the log table exact.
 pub fn logs_fit(size: Size, logs: usize) -> bool
     ensures { result ≡ logs_fit size logs }
 {
-    let fine = size_fits(size);
-    if !fine {
-        return false;
-    }
-    let count = records(size);
-    logs == 2 * count
+    size_fits(size) && logs == 2 * records(size)
 }
