@@ -1,48 +1,47 @@
 // The log query.
 #![tactic(auto)]
 
-ghost use Rattle.std.specs.Prelude.{◌≡◌, true, ◌<◌, length};
+ghost use Rattle.std.specs.Prelude.{◌≡◌, true, length};
 ghost use Rattle.model.specs.Size.{size_fits};
 ghost use Rattle.model.specs.InUse.{logs_length, logs_of};
-ghost use Rattle.model.specs.Logs.{is_there, entry_number, entry_cue, queried, log_entry};
+ghost use Rattle.model.specs.Record.{no_cue};
+ghost use Rattle.model.specs.Logs.{is_there, queried, log_entry};
+ghost use Rattle.model.specs.Refusal.{numbered, reply_number, reply_or};
 
-use model::{Entry, Size, logs};
+use model::{Cue, Refusal, Size, logs};
 
 // "log query: rack, lane or place not there": whether all are.
+#[tactic(auto, using(model::proofs::Start::log_fits), unfolding(model::specs::Logs::is_there))]
 fn is_there(size: Size, logs: &[u8], rack: usize, lane: usize, place: usize) -> bool
     requires { (size_fits size ≡ true) × (length logs.now ≡ logs_length size) }
     ensures { result ≡ is_there size (logs_of logs.now) rack lane place }
 {
-    let absent = size.racks <= rack;
-    if absent {
-        return false;
-    }
-    let no_lane = size.lanes <= lane;
-    if no_lane {
-        return false;
-    }
-    let start = logs::log_start(size, rack, lane);
-    let length = logs::length_from(logs, start, size.rounds);
-    place < length
+    rack < size.racks
+        && lane < size.lanes
+        && place < logs::length_from(logs, logs::log_start(size, rack, lane), size.rounds)
 }
 
-// The issuer and number at a place of a log; or 1 for sizes and length, 2 for a log table that is not sound, 9 for what is not there.
-pub fn log_entry(size: Size, logs: &[u8], rack: usize, lane: usize, place: usize) -> Entry
-    ensures { (record { number = entry_number result; cue = entry_cue result } ≡ queried size (logs_of logs.now) rack lane place)
-        × (result ≡ log_entry size (logs_of logs.now) rack lane place) }
+// The issuer and number at a place of a log; or a refusal for sizes and length, for a log table that is not sound, and for what is not there.
+#[tactic(auto, using(model::proofs::Start::log_fits, model::proofs::Length::length_most), unfolding(model::specs::Logs::queried, model::specs::Logs::log_entry, model::specs::Logs::is_there, sizes::specs::Lengths::logs_fit))]
+pub fn log_entry(
+    size: Size,
+    logs: &[u8],
+    rack: usize,
+    lane: usize,
+    place: usize,
+) -> Result<Cue, Refusal>
+    ensures { (record { number = reply_number result; cue = reply_or no_cue result } ≡ queried size (logs_of logs.now) rack lane place)
+        × (numbered result ≡ log_entry size (logs_of logs.now) rack lane place) }
 {
-    let fine = sizes::logs_fit(size, logs.len());
-    if !fine {
-        return Entry::Refused(1);
+    if !sizes::logs_fit(size, logs.len()) {
+        return Err(Refusal::Misfit);
     }
-    let sound = sound::sound_logs(size, logs);
-    if !sound {
-        return Entry::Refused(2);
+    if !sound::sound_logs(size, logs) {
+        return Err(Refusal::Unsound);
     }
-    let there = is_there(size, logs, rack, lane, place);
-    if !there {
-        return Entry::Refused(9);
+    if !is_there(size, logs, rack, lane, place) {
+        return Err(Refusal::NotThere);
     }
     let start = logs::log_start(size, rack, lane);
-    Entry::Found(logs::entry(logs, start + place))
+    Ok(logs::entry(logs, start + place))
 }
