@@ -46,7 +46,7 @@ fn fresh_rack(size: Size, rack: u8) -> Rack
 fn fresh_state(size: Size, rack: u8) -> Rack
     ensures { result ≡ cond (ltb rack size.racks) (fresh_rack size rack) zero_rack }
 {
-    if (rack as usize) < size.racks {
+    if usize::from(rack) < size.racks {
         fresh_rack(size, rack)
     } else {
         Rack::default()
