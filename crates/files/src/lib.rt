@@ -2,131 +2,101 @@
 // to stop.
 #![tactic(auto)]
 
-ghost use Rattle.files.specs.Counts.{IsPrefixLen};
-ghost use Rattle.files.specs.Got.{Opened, Filled};
+ghost use Rattle.std.specs.Prelude.{◌≡◌, ◌≢◌, Some, Ok, IsNone, IsOk, IsErr, IfOk, MatchResult};
+ghost use Rattle.std.specs.IoError.{error_kind};
+ghost use Rattle.files.specs.Got.{Filled, ReadsOn, left};
 
-use std::fmt::Write;
-use std::io::{ErrorKind, Read};
+use std::io::{Cursor, ErrorKind, Read, Write};
 use std::rt::Files;
-use std::{fmt, fs, io};
+use std::{fs, io};
 
-// A file to read: none if it is missing, or a failure that has been told.
-#[derive(Drop)]
-pub struct File<F> {
-    pub failed: bool,
-    pub file: Option<F>,
-}
+// A failure that has been told on standard error.
+#[derive(Clone, Copy, Debug, PartialEq, Eq)]
+pub struct Told;
 
-// What reading gave: how many bytes, and whether the file has ended or a failure has been told; if neither, there may be more.
-#[derive(Clone, Copy)]
+// What reading gave: how many bytes, and whether the file has ended; if not, the buffer is full and there may be more.
+#[derive(Clone, Copy, Debug, PartialEq, Eq)]
 pub struct Got {
-    pub failed: bool,
-    pub ended: bool,
     pub count: usize,
+    pub ended: bool,
 }
 
-// Room for what the system says of an error.
+// Room for what the system says of an error; what there is no room for is left off.
 const ROOM: usize = 256;
-
-// What the system says of an error, as much as there is room for.
-#[derive(Drop)]
-struct Words {
-    bytes: [u8; ROOM],
-    count: usize,
-}
-
-impl fmt::Write for Words {
-    fn write_str(&mut self, s: &str) -> fmt::Result {
-        for b in s.as_bytes() {
-            if self.count < ROOM {
-                self.bytes[self.count] = *b;
-                self.count += 1;
-            }
-        }
-        Ok(())
-    }
-}
 
 // Tells a failure: what failed, a colon and why, without the number that std writes behind it. Nothing is left to do where standard error
 // fails too.
-fn tell(rt: &impl Eprint, what: &str, why: io::Error) {
-    let mut words = Words {
-        bytes: [0; ROOM],
-        count: 0,
-    };
-    let _ = words.write(why);
-    let said = match str::from_utf8(&words.bytes[..words.count.min(ROOM)]) {
-        Ok(said) => said,
-        Err(_) => "",
-    };
-    let said = match said.split_once(" (os error ") {
-        Some((said, _)) => said,
-        None => said,
-    };
+fn tell(rt: &impl Eprint, what: &str, why: io::Error) -> Told {
+    let mut words = Cursor::new([0; ROOM]);
+    let _ = write!(words, "{why}");
+    let count = (words.position() as usize).min(ROOM);
+    let said = str::from_utf8(&words.get_ref()[..count]).unwrap_or("");
+    let said = said
+        .split_once(" (os error ")
+        .map_or(said, |(said, _)| said);
     let _ = eprintln!(rt; "{what}: {said}");
+    Told
 }
 
-// Opens a file to read. "A missing file counts as empty": it gives no file and no failure; any other failure is told.
-pub fn open<R: Files + Eprint>(rt: &R, path: &str) -> File<R::File>
-    ensures { Opened result.failed result.file }
+// Opens a file to read; a missing file is none.
+pub fn open<R: Files + Eprint>(rt: &R, path: &str) -> Result<Option<R::File>, Told> {
+    found(rt, path, fs::open(rt, path))
+}
+
+// What opening a file found. "A missing file counts as empty": it gives no file and no failure; any other failure is told.
+fn found<F: Drop>(rt: &impl Eprint, path: &str, opened: io::Result<F>) -> Result<Option<F>, Told>
+    ensures { MatchResult opened
+        (λ file. result ≡ Ok (Some file))
+        (λ why. (error_kind why ≡ ErrorKind.NotFound → result ≡ Ok None) × (error_kind why ≢ ErrorKind.NotFound → IsErr result)) }
 {
-    let (failed, file) = match fs::open(rt, path) {
-        Ok(file) => (false, Some(file)),
-        Err(why) => (has_failed(rt, path, why), None),
-    };
-    File { failed, file }
-}
-
-// Whether a file that was not opened is there for all that, which is told.
-fn has_failed(rt: &impl Eprint, path: &str, why: io::Error) -> bool {
-    let failed = why.kind() != ErrorKind::NotFound;
-    if failed {
-        tell(rt, path, why);
+    match opened {
+        Ok(file) => Ok(Some(file)),
+        Err(why) if why.kind() == ErrorKind::NotFound => Ok(None),
+        Err(why) => Err(tell(rt, path, why)),
     }
-    failed
 }
 
-// Reads until the buffer is full, the file has ended or a read fails, which is told: how many bytes, and whether the file has ended.
-fn read_full<F: Read>(rt: &impl Eprint, file: &mut F, path: &str, buf: &mut [u8]) -> (usize, bool)
-    ensures { IsPrefixLen result.0 buf.new }
+// Reads until the buffer is full, the file has ended or a read fails, which is told.
+fn read_full<F: Read>(
+    rt: &impl Eprint,
+    file: &mut F,
+    path: &str,
+    buf: &mut [u8],
+) -> Result<Got, Told>
+    ensures filled { IfOk result (λ got. Filled got buf.new) }
+    ensures reads { IfOk result (λ got. ReadsOn (F.remaining file.old) (F.remaining file.new) got buf.new) }
 {
-    let mut done = 0;
-    while done < buf.len() {
-        match file.read(&mut buf[done..]) {
-            Ok(0) => return (done, true),
-            Ok(n) => done += n,
-            Err(why) => {
-                tell(rt, path, why);
-                return (done, false);
-            }
+    let mut count = 0;
+    while count < buf.len() {
+        match file.read(&mut buf[count..]) {
+            Ok(0) => return Ok(Got { count, ended: true }),
+            Ok(n) => count += n,
+            Err(why) => return Err(tell(rt, path, why)),
         }
     }
-    (done, false)
+    Ok(Got {
+        count,
+        ended: false,
+    })
 }
 
 // The next part of a file, until the buffer is full: a file larger than memory is read by parts. The path names a failure.
-pub fn read_part<F: Read>(rt: &impl Eprint, file: &mut Option<F>, path: &str, buf: &mut [u8]) -> Got
-    ensures { Filled result buf.new }
+pub fn read_part<F: Read>(
+    rt: &impl Eprint,
+    file: &mut Option<F>,
+    path: &str,
+    buf: &mut [u8],
+) -> Result<Got, Told>
+    ensures filled { IfOk result (λ got. Filled got buf.new) }
+    ensures missing { IsNone file.old → IsOk result }
+    ensures reads { IfOk result (λ got. ReadsOn (left F.remaining file.old) (left F.remaining file.new) got buf.new) }
 {
-    let Some(file) = file else {
-        return Got {
-            failed: false,
-            ended: true,
+    match file {
+        Some(file) => read_full(rt, file, path, buf),
+        None => Ok(Got {
             count: 0,
-        };
-    };
-    let (count, ended) = read_full(rt, file, path, buf);
-    if count == buf.len() {
-        return Got {
-            failed: false,
-            ended: false,
-            count,
-        };
-    }
-    Got {
-        failed: !ended,
-        ended,
-        count,
+            ended: true,
+        }),
     }
 }
 
@@ -136,29 +106,16 @@ pub fn close<F: Drop>(file: Option<F>) {
 }
 
 // The first bytes of a file, at most as many as there is room for.
-pub fn load(rt: &(impl Files + Eprint), path: &str, buf: &mut [u8]) -> Got
-    ensures { Filled result buf.new }
+pub fn load(rt: &(impl Files + Eprint), path: &str, buf: &mut [u8]) -> Result<Got, Told>
+    ensures { IfOk result (λ got. Filled got buf.new) }
 {
-    let mut file = open(rt, path);
-    if file.failed {
-        return Got {
-            failed: true,
-            ended: false,
-            count: 0,
-        };
-    }
-    let got = read_part(rt, &mut file.file, path, buf);
-    close(file.file);
+    let mut file = open(rt, path)?;
+    let got = read_part(rt, &mut file, path, buf);
+    close(file);
     got
 }
 
 // Writes to standard output, or tells the failure.
-pub fn print(rt: &(impl Print + Eprint), text: &[u8]) -> bool {
-    match rt.write_all(text) {
-        Ok(()) => true,
-        Err(why) => {
-            tell(rt, "write", why);
-            false
-        }
-    }
+pub fn print(rt: &(impl Print + Eprint), text: &[u8]) -> Result<(), Told> {
+    rt.write_all(text).map_err(|why| tell(rt, "write", why))
 }
