@@ -45,7 +45,7 @@ below_all_of p d xs (suc n) h =
     subst (λ m. below (suc n) (λ i. p (get_or xs i d)) ≡ list_all p (take m xs)) (sym one)
     (ap (λ b. b && p (get_or xs n d)) (below_all_of p d xs n (omega (arith, h))) ∙ sym step)
 
-below_first : (test : ℕ → Bool) (n : ℕ) → below (suc n) test ≡ (test 0 && below n (λ i. test (suc i)))
+pub below_first : (test : ℕ → Bool) (n : ℕ) → below (suc n) test ≡ (test 0 && below n (λ i. test (suc i)))
 below_first test zero = grind arith
 below_first test (suc n) = grind (arith, below_first test n)
 

@@ -67,7 +67,8 @@ pub fn play(
         ≡ turned size (card_of cells.old logs.old decisions.old racks) turn.now }
 {
     let rack = rack_named(size, turn);
+    let after = play_rack(size, cells, logs, decisions, racks[rack], turn)?;
     let mut all = racks;
-    all[rack] = play_rack(size, cells, logs, decisions, racks[rack], turn)?;
+    all[rack] = after;
     Ok(all)
 }

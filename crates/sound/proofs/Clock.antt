@@ -53,7 +53,6 @@ unfolding sound_first
 first_there s r e h = ltb-true r.first s.lanes (rw (le-ltb r.step 2 h) at e)
 
 pub record Choice (s : Size) (r : Rack) : Type 0 where
-  pub round_low : 1 ≤ r.round
   pub first : r.first < s.lanes
   pub row : (r.round - 1) * s.lanes + r.first < s.rounds * s.lanes
   pub rows : s.rounds * s.lanes ≤ 256
@@ -76,7 +75,6 @@ module _ {s : Size} {cells : List ℕ} {r : Rack} (k : Clocked s cells r) where
       let z = sizes s k.size in
       let f = first_there s r k.first_lane h in
       record {
-        round_low = t.round_low;
         first = f;
         row = row_below s r.round r.first t.round_low (t.on (omega arith)) f;
         rows = rows_most s z;

@@ -1,4 +1,3 @@
-pub mod Each
 pub mod Extent
 pub mod Clock
 pub mod Zeros

@@ -18,7 +18,7 @@ use Rattle.model.specs.Record.{no_value, no_cell, same_value, same_cell}
 use Rattle.model.specs.Table.{held_at, result_at, news_at, first_at, second_at}
 use Rattle.model.specs.Fresh.{zero_rack}
 use Rattle.model.specs.Sound.{unused_lane, unused_rack}
-use Rattle.sound.proofs.Each.{list_below}
+use Rattle.laws.proofs.Each.{list_below}
 
 every : {A : Type 0} (E : A → A → Bool) (d : A) (xs : List A) (n : ℕ) → length xs ≡ n → pointwise E xs (replicate n d) ≡ list_all (λ x. E x d) xs
 every E d [] zero h = refl

@@ -35,18 +35,18 @@ offset_bounds-all-rack c = omega (arith, there (goal.at.offset_bounds-all-rack c
 pub bounds-all-rack : goal.bounds-all-rack
 bounds-all-rack c = there (goal.at.bounds-all-rack c).After-rack_named-rack
 
-pub returns-in_err-all : goal.returns-in_err-all
-returns-in_err-all c =
+pub returns-in_err-after : goal.returns-in_err-after
+returns-in_err-after c =
     let p = err_from_is_err_and c.from_residual.result c.from_residual.ensures.1 in
     let a = c.args in
     let o : RackOutcome = record {
-      number = number_of c.in_err-all.field-0.0;
+      number = number_of c.in_err-after.field-0.0;
       after = after_of c.play_rack.new.cells c.play_rack.new.logs c.play_rack.new.decisions (rack_at a.racks c.rack_named-rack.result);
     } in
     rw (p.1, p.2)
-    (same_racks (λ racks. outcome o.number c.play_rack.new.cells c.play_rack.new.logs c.play_rack.new.decisions racks) a.racks c.rack_named-rack.result ∙ turned_rack _ (lent (goal.at.returns-in_err-all c).After-rack_named-rack) c.requires _ _ c.rack_named-rack.ensures o c.in_err-all.ensures)
+    (same_racks (λ racks. outcome o.number c.play_rack.new.cells c.play_rack.new.logs c.play_rack.new.decisions racks) a.racks c.rack_named-rack.result ∙ turned_rack _ (lent (goal.at.returns-in_err-after c).After-rack_named-rack) c.requires _ _ c.rack_named-rack.ensures o c.in_err-after.ensures)
 
 pub returns : goal.returns
 returns c =
-    let o : RackOutcome = record { number = 0; after = after_of c.play_rack.new.cells c.play_rack.new.logs c.play_rack.new.decisions c.in_ok-all.field-0 } in
-    turned_rack _ (lent (goal.at.returns c).After-rack_named-rack) c.requires _ _ c.rack_named-rack.ensures o c.in_ok-all.ensures
+    let o : RackOutcome = record { number = 0; after = after_of c.play_rack.new.cells c.play_rack.new.logs c.play_rack.new.decisions c.in_ok-after.after } in
+    turned_rack _ (lent (goal.at.returns c).After-rack_named-rack) c.requires _ _ c.rack_named-rack.ensures o c.in_ok-after.ensures

@@ -5,14 +5,14 @@ use Rattle.model.specs.Logs.{longer}
 use Rattle.ports.specs.Told.{which_longer}
 use Rattle.ports.proofs.night_longer.Goals as goal
 
-pub returns-then-not-agreeing : goal.returns-then-not-agreeing
+pub returns-then-not-agree : goal.returns-then-not-agree
 unfolding longer which_longer
-returns-then-not-agreeing c = rw (sym c.agree-agreeing.ensures ∙ c.if-not-agreeing.true)
+returns-then-not-agree c = rw (sym c.agree.ensures ∙ c.if-not-agree.true)
 
 pub returns-then-a-b : goal.returns-then-a-b
 unfolding which_longer
-returns-then-a-b c = rw (c.longer-length.ensures.0, sym c.agree-agreeing.ensures ∙ c.if-not-agreeing.false, lt-ltb _ _ c.if-a-b.true)
+returns-then-a-b c = rw (c.longer-length.ensures.0, sym c.agree.ensures ∙ c.if-not-agree.false, lt-ltb _ _ c.if-a-b.true)
 
 pub returns : goal.returns
 unfolding which_longer
-returns c = rw (c.longer-length.ensures.0, sym c.agree-agreeing.ensures ∙ c.if-not-agreeing.false, le-ltb _ _ c.if-a-b.false)
+returns c = rw (c.longer-length.ensures.0, sym c.agree.ensures ∙ c.if-not-agree.false, le-ltb _ _ c.if-a-b.false)

@@ -5,7 +5,7 @@ use lib.Dec.{ltb}
 use Rattle.model.specs.Record.{no_cell, same_cell}
 use Rattle.model.specs.Table.{section_of}
 use Rattle.model.specs.Sound.{sound_cell}
-use Rattle.sound.proofs.Each.{all_counted}
+use Rattle.laws.proofs.Each.{all_counted}
 use Rattle.sound.proofs.racks.sound_gathered_cells.Goals as goal
 
 pub returns : goal.returns

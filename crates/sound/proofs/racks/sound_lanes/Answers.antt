@@ -2,7 +2,7 @@
 use borrow.Author.Rules.{rules}
 use Rattle.model.specs.InUse.{cells_of, logs_of}
 use Rattle.model.specs.Sound.{sound_lane}
-use Rattle.sound.proofs.Each.{all_below}
+use Rattle.laws.proofs.Each.{all_below}
 use Rattle.sound.proofs.racks.sound_lanes.Goals as goal
 
 pub returns : goal.returns

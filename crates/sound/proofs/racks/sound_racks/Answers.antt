@@ -3,7 +3,7 @@ use borrow.Author.Rules.{rules}
 use Rattle.model.specs.InUse.{tables_of}
 use Rattle.model.specs.Table.{no_rack}
 use Rattle.model.specs.Sound.{sound_state, sound_racks}
-use Rattle.sound.proofs.Each.{all_counted}
+use Rattle.laws.proofs.Each.{all_counted}
 use Rattle.sound.proofs.racks.sound_racks.Goals as goal
 
 pub returns : goal.returns

@@ -5,7 +5,7 @@ use lib.Dec.{eqb, ltb}
 use Rattle.model.specs.Size.{decisions_length}
 use Rattle.model.specs.Table.{undecided}
 use Rattle.model.specs.Sound.{sound_decisions}
-use Rattle.sound.proofs.Each.{all_in}
+use Rattle.laws.proofs.Each.{all_in}
 use Rattle.sound.proofs.tables.sound_decisions.Goals as goal
 
 pub returns : goal.returns

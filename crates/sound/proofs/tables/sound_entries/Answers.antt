@@ -1,7 +1,7 @@
 -- The test of each record.
 use borrow.Author.Rules.{rules}
 use Rattle.model.specs.Sound.{sound_entries}
-use Rattle.sound.proofs.Each.{all_below}
+use Rattle.laws.proofs.Each.{all_below}
 use Rattle.sound.proofs.tables.sound_entries.Goals as goal
 
 pub returns : goal.returns

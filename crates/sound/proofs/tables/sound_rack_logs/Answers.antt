@@ -1,6 +1,6 @@
 -- The test of each lane.
 use borrow.Author.Rules.{rules}
-use Rattle.sound.proofs.Each.{all_below}
+use Rattle.laws.proofs.Each.{all_below}
 use Rattle.sound.proofs.tables.sound_rack_logs.Goals as goal
 
 pub returns : goal.returns

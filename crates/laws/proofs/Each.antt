@@ -21,18 +21,18 @@ use Rattle.std.proofs.lemmas.Iterator.{YieldsList-from_range, YieldsList-from_sl
 use Rattle.std.proofs.lemmas.Iterator.Consumers.{YieldsList-from_enumerate}
 use Rattle.std.proofs.lemmas.Iterator.Search.{all_from_yields_List}
 use Rattle.laws.specs.Below.{below}
-use Rattle.laws.proofs.Below.{below_all, below_all_from, below_all_of}
+use Rattle.laws.proofs.Below.{below_first, below_all, below_all_from, below_all_of}
 
--- a call of the closure g, in the state f, answers the test of what it is given
-abbrev pub Answers : {F A B : Type 0} → Mut F (A × Unit {0}) Bool → F → (A → B) → (B → Bool) → Type 0
-Answers {F} {A} g f value test = (x : A) (b : Bool) (q : F) → Called g f (x, tt) b q → (q ≡ f) × (b ≡ test (value x))
+-- a call of the closure g, in the state f, tests what it is given
+abbrev pub Tests : {F A B : Type 0} → Mut F (A × Unit {0}) Bool → F → (A → B) → (B → Bool) → Type 0
+Tests {F} {A} g f value test = (x : A) (b : Bool) (q : F) → Called g f (x, tt) b q → (q ≡ f) × (b ≡ test (value x))
 
 module _ {F : Type 0} {g : Mut F (ℕ × Unit {0}) Bool} {f : F} {u : Range ℕ} {r : Bool} (test : ℕ → Bool) where
-  pub all_from : (a n : ℕ) → ChecksAll nat_range_steps g (record { start = a; end = a + n }) f r u → Answers g f (λ x. x) test
+  pub all_from : (a n : ℕ) → ChecksAll nat_range_steps g (record { start = a; end = a + n }) f r u → Tests g f (λ x. x) test
       → r ≡ below n (λ i. test (a + i))
   all_from a n e t = all_from_yields_List test _ _ r e (YieldsList-from_range a (a + n) n refl (omega arith)) t ∙ sym (below_all_from test a n)
 
-  pub all_below : (n : ℕ) → ChecksAll nat_range_steps g (record { start = 0; end = n }) f r u → Answers g f (λ x. x) test → r ≡ below n test
+  pub all_below : (n : ℕ) → ChecksAll nat_range_steps g (record { start = 0; end = n }) f r u → Tests g f (λ x. x) test → r ≡ below n test
   all_below n e t = all_from_yields_List test _ _ r e (YieldsList-from_range 0 n n refl (omega arith)) t ∙ sym (below_all test n)
 
 -- the test passes at every element of a list
@@ -43,12 +43,8 @@ list_below test d xs n h =
     ∙ ap (λ m. below m (λ i. test (get_or xs i d))) h
 
 pub all_in : {A F : Type 0} {g : Mut F (Bor A × Unit {0}) Bool} {f : F} {s u : Iter A} {r : Bool} (test : A → Bool) (d : A) (xs : List A) (n : ℕ)
-    → length xs ≡ n → iter_rest s ≡ xs → ChecksAll fronts g s f r u → Answers g f (λ x. x.now) test → r ≡ below n (λ i. test (get_or xs i d))
+    → length xs ≡ n → iter_rest s ≡ xs → ChecksAll fronts g s f r u → Tests g f (λ x. x.now) test → r ≡ below n (λ i. test (get_or xs i d))
 all_in {r = r} test d xs n h e a t = all_from_yields_List test _ _ r a (YieldsList-from_slice xs e) t ∙ list_below test d xs n h
-
-below_first : (test : ℕ → Bool) (n : ℕ) → below (suc n) test ≡ (test 0 && below n (λ i. test (suc i)))
-below_first test zero = grind arith
-below_first test (suc n) = grind (arith, below_first test n)
 
 -- the test passes at every element with its place, of which the first is k
 counted : {A : Type 0} (test : ℕ → A → Bool) (d : A) (k : ℕ) (xs : List A)
@@ -63,7 +59,7 @@ counted test d k (x ∷ xs) =
 
 pub all_counted : {A F : Type 0} {g : Mut F ((ℕ × Bor A) × Unit {0}) Bool} {f : F} {s u : Enumerate (Iter A)} {r : Bool} (test : ℕ → A → Bool) (d : A) (xs : List A) (n : ℕ)
     → length xs ≡ n → iter_rest (enumerate_source s) ≡ xs → enumerate_count s ≡ 0 → ChecksAll (enumerate_steps fronts) g s f r u
-    → Answers {B = ℕ × A} g f (λ p. (p.0, p.1.now)) (λ p. test p.0 p.1) → r ≡ below n (λ i. test i (get_or xs i d))
+    → Tests {B = ℕ × A} g f (λ p. (p.0, p.1.now)) (λ p. test p.0 p.1) → r ≡ below n (λ i. test i (get_or xs i d))
 all_counted {r = r} test d xs n h e z a t =
     let shift : (i : ℕ) → 0 + i ≡ i = λ i. omega arith in
     all_from_yields_List (λ p. test p.0 p.1) _ _ r a (YieldsList-from_enumerate (YieldsList-from_slice xs e) z) t
