@@ -5,6 +5,8 @@ use Prim.Native.Nat.{ℕ, ◌≤◌}
 use native.Mathlib.Omega.{arith}
 use lib.Dec.{lit<, lit≤}
 use Rattle.model.specs.Turn.{Outcome}
+use Rattle.model.specs.declared.Cue.{Cue}
+use Rattle.model.specs.Record.{no_cue}
 use Rattle.model.specs.Refusal.{Answer, answer_number, answer_value}
 use Rattle.model.specs.Logs.{is_there, queried, log_entry}
 use Rattle.model.specs.Table.{log_length}

@@ -5,9 +5,7 @@ use mathlib.Core.List.{List}
 use Prim.Native.Nat.{ℕ}
 use denote.Ref.{Bor}
 use denote.Triple.Clauses.{Ended}
-use Rattle.std.specs.Prelude.{Result}
 use Rattle.model.specs.declared.Rack.{Rack}
-use Rattle.model.specs.declared.Refusal.{Refusal}
 use Rattle.model.specs.Refusal.{reply_number, reply_or}
 use Rattle.model.specs.Turn.{Outcome}
 use Rattle.model.specs.InUse.{outcome}
@@ -47,10 +45,10 @@ pub equals : {T : Ended} {call : Call} {O : Type 0} {seen : Seen T O} {given : G
 equals met = record { keeps = met; once = λ κs a r r' x x' p q. p ∙ sym q }
 
 -- a reply with the tables afterwards
-outcome_once : (before : List Rack) {o : Outcome} (r r' : Result (List Rack) Refusal) (cells logs decisions cells' logs' decisions' : List ℕ)
+outcome_once : (before : List Rack) {o : Outcome} (r r' : calls.Replied (List Rack)) (cells logs decisions cells' logs' decisions' : List ℕ)
     → outcome (reply_number r) cells logs decisions (reply_or before r) ≡ o
     → outcome (reply_number r') cells' logs' decisions' (reply_or before r') ≡ o
-    → (r, (cells, (logs, decisions))) ≡ (r', (cells', (logs', decisions')))
+    → ◌≡◌ {A = calls.Replied (List Rack) × calls.Lent} (r, (cells, (logs, decisions))) (r', (cells', (logs', decisions')))
 outcome_once before r r' cells logs decisions cells' logs' decisions' p q =
     let e = p ∙ sym q in
     let reply = same_reply before r r' (ap (λ (o : Outcome). o.number) e) (ap (λ (o : Outcome). o.card.racks) e) in

@@ -1,9 +1,11 @@
 -- What each public call promises. A call's arguments stand in a pattern in the order of its signature, and so do its parameters at exit.
-use Rattle.std.specs.Prelude.{◌≡◌, List, ℕ, replicate}
+use Rattle.std.specs.Prelude.{◌≡◌, List, ℕ, Result, replicate}
 use Rattle.std.specs.Borrow.{Bor}
 use prog.Wired.{Code}
 use mir.Syntax.{Callee}
 use Rattle.model.specs.declared.Size.{Size}
+use Rattle.model.specs.declared.Rack.{Rack}
+use Rattle.model.specs.declared.Refusal.{Refusal}
 use Rattle.model.specs.InUse.{logs_of, tables_of, card_of, outcome}
 use Rattle.model.specs.Turn.{turned, soundness}
 use Rattle.model.specs.Fresh.{zero_rack, filled}
@@ -70,10 +72,17 @@ call code name = record { code = code; name = name }
 abbrev Bytes : Type 0
 Bytes = Bor (List ℕ)
 
+-- what a reply hands back, and the bytes of the three tables
+abbrev pub Replied : Type 0 → Type 0
+Replied A = Result A Refusal
+
+abbrev pub Lent : Type 0
+Lent = List ℕ × (List ℕ × List ℕ)
+
 -- all tables: the reply with the racks, and the three tables afterwards
 abbrev pub Fresh : Type 2
 Fresh =
-    Promises fresh.ended (call fresh_proved.Symbol.code fresh_proved.Symbol.name)
+    Promises fresh.ended (call fresh_proved.Symbol.code fresh_proved.Symbol.name) {O = Replied (List Rack) × Lent}
     (λ κs (size, (cells_before, (logs_before, (decisions_before, _)))) r (_, (cells, (logs, (decisions, _)))).
     outcome (reply_number r) cells.now logs.now decisions.now (reply_or (replicate 8 zero_rack) r)
     ≡ filled size (tables_of cells_before.now logs_before.now decisions_before.now))
@@ -87,7 +96,7 @@ Sound =
 
 abbrev pub Turn : Type 2
 Turn =
-    Promises turn.ended (call turn_proved.Symbol.code turn_proved.Symbol.name)
+    Promises turn.ended (call turn_proved.Symbol.code turn_proved.Symbol.name) {O = Replied (List Rack) × Lent}
     (λ κs (size, (cells_before, (logs_before, (decisions_before, (racks, (bytes, _)))))) r (_, (cells, (logs, (decisions, _)))).
     outcome (reply_number r) cells.now logs.now decisions.now (reply_or racks r)
     ≡ turned size (card_of cells_before.now logs_before.now decisions_before.now racks) bytes.now)
@@ -148,7 +157,7 @@ listed number lists = record { number = number; lists = lists }
 
 abbrev pub AddCue : Type 2
 AddCue =
-    Promises add_cue_call.ended (call add_cue_proved.Symbol.code add_cue_proved.Symbol.name)
+    Promises add_cue_call.ended (call add_cue_proved.Symbol.code add_cue_proved.Symbol.name) {O = Replied (Unit {0}) × List ℕ}
     (λ κs (racks, (lanes, (lists_before, (cue, _)))) r (_, (_, (lists, _))). listed (reply_number r) lists.now ≡ add_cue racks lanes lists_before.now cue.now)
     (λ κs r (_, (_, (lists, _))). (r, lists.now))
 
