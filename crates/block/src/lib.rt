@@ -1,10 +1,10 @@
 // What a rack makes of the cells that it has read: its second cell, its result and its news in a lane.
 #![tactic(auto)]
 
-ghost use Rattle.std.specs.Prelude.{◌≡◌, ◌≤◌, take};
+ghost use Rattle.std.specs.Prelude.{◌≡◌, length};
 ghost use Rattle.std.specs.List.{list_all, fold, find};
-ghost use Rattle.model.specs.Record.{is_committed};
-ghost use Rattle.model.specs.Block.{equals_own, higher, second_cell, backs_own, adopted_value, result_of, newer, news};
+ghost use Rattle.model.specs.Record.{no_cell, is_committed};
+ghost use Rattle.model.specs.Block.{equals_own, higher, second_cell, backs_own, adopted_value, result_of, newer, newest};
 
 use model::{Cell, Value};
 
@@ -17,11 +17,10 @@ fn equals_own(own: Value, c: Cell) -> bool
 }
 
 // "every non-empty first cell read equals it"
-fn all_equal_own(firsts: [Cell; 8], own: Value, n: usize) -> bool
-    requires { n ≤ 8 }
-    ensures { result ≡ list_all (equals_own own) (take n firsts) }
+fn all_equal_own(firsts: &[Cell], own: Value) -> bool
+    ensures { result ≡ list_all (equals_own own) firsts.now }
 {
-    firsts[..n].iter().all(|c| equals_own(own, *c))
+    firsts.iter().all(|c| equals_own(own, *c))
 }
 
 // What is kept of two: the cell's value if it has a greater place.
@@ -37,22 +36,20 @@ fn higher(best: Value, c: Cell) -> Value
 }
 
 // "the value of greatest place read, its own if it ties, else the lowest rack's"
-fn greatest(firsts: [Cell; 8], own: Value, n: usize) -> Value
-    requires { n ≤ 8 }
-    ensures { result ≡ fold higher own (take n firsts) }
+fn greatest(firsts: &[Cell], own: Value) -> Value
+    ensures { result ≡ fold higher own firsts.now }
 {
-    firsts[..n].iter().fold(own, |best, c| higher(best, *c))
+    firsts.iter().fold(own, |best, c| higher(best, *c))
 }
 
 // "committed with its own value if every non-empty first cell read equals it; else adopted, with the value of greatest place read"
-pub fn second_cell(firsts: [Cell; 8], own: Value, n: usize) -> Cell
-    requires { n ≤ 8 }
-    ensures { result ≡ second_cell firsts own n }
+pub fn second_cell(firsts: &[Cell], own: Value) -> Cell
+    ensures { result ≡ second_cell firsts.now own (length firsts.now) }
 {
-    if all_equal_own(firsts, own, n) {
+    if all_equal_own(firsts, own) {
         Cell::committed(own)
     } else {
-        Cell::adopted(greatest(firsts, own, n))
+        Cell::adopted(greatest(firsts, own))
     }
 }
 
@@ -65,41 +62,37 @@ fn backs_own(own: Value, c: Cell) -> bool
 }
 
 // "every non-empty second cell read is marked committed and equals its own"
-fn all_back_own(seconds: [Cell; 8], own: Value, n: usize) -> bool
-    requires { n ≤ 8 }
-    ensures { result ≡ list_all (backs_own own) (take n seconds) }
+fn all_back_own(seconds: &[Cell], own: Value) -> bool
+    ensures { result ≡ list_all (backs_own own) seconds.now }
 {
-    seconds[..n].iter().all(|c| backs_own(own, *c))
+    seconds.iter().all(|c| backs_own(own, *c))
 }
 
 // "the first committed cell"
-fn first_committed(seconds: [Cell; 8], n: usize) -> Option<Cell>
-    requires { n ≤ 8 }
-    ensures { result ≡ find is_committed (take n seconds) }
+fn first_committed(seconds: &[Cell]) -> Option<Cell>
+    ensures { result ≡ find is_committed seconds.now }
 {
-    seconds[..n].iter().find(|c| c.is_committed()).copied()
+    seconds.iter().find(|c| c.is_committed()).copied()
 }
 
 // "the first committed cell's value if one was read, else the value in its own second cell"
-fn adopted_value(seconds: [Cell; 8], second: Value, n: usize) -> Value
-    requires { n ≤ 8 }
-    ensures { result ≡ adopted_value seconds second n }
+fn adopted_value(seconds: &[Cell], second: Value) -> Value
+    ensures { result ≡ adopted_value seconds.now second (length seconds.now) }
 {
-    match first_committed(seconds, n) {
+    match first_committed(seconds) {
         Some(c) => c.value,
         None => second,
     }
 }
 
 // "Committed: every non-empty second cell read is marked committed and equals its own. Otherwise adopted"
-pub fn result(seconds: [Cell; 8], own: Value, second: Value, n: usize) -> Cell
-    requires { n ≤ 8 }
-    ensures { result ≡ result_of seconds own second n }
+pub fn result(seconds: &[Cell], own: Value, second: Value) -> Cell
+    ensures { result ≡ result_of seconds.now own second (length seconds.now) }
 {
-    if all_back_own(seconds, own, n) {
+    if all_back_own(seconds, own) {
         Cell::committed(own)
     } else {
-        Cell::adopted(adopted_value(seconds, second, n))
+        Cell::adopted(adopted_value(seconds, second))
     }
 }
 
@@ -116,19 +109,17 @@ fn newer(best: Cell, c: Cell) -> Cell
 }
 
 // The newest of these cells and one read before them, "the earliest on a tie".
-fn newest(cells: [Cell; 8], before: Cell, n: usize) -> Cell
-    requires { n ≤ 8 }
-    ensures { result ≡ fold newer before (take n cells) }
+fn newest(cells: &[Cell], before: Cell) -> Cell
+    ensures { result ≡ fold newer before cells.now }
 {
-    cells[..n].iter().fold(before, |best, c| newer(best, *c))
+    cells.iter().fold(before, |best, c| newer(best, *c))
 }
 
 // "the value of greatest place among all non-empty cells read, first cells before second, the earliest on a tie"
-pub fn news(firsts: [Cell; 8], seconds: [Cell; 8], n: usize) -> Value
-    requires { n ≤ 8 }
-    ensures { result ≡ news firsts seconds n }
+pub fn news(firsts: &[Cell], seconds: &[Cell]) -> Value
+    ensures { result ≡ (newest seconds.now (newest firsts.now no_cell (length firsts.now)) (length seconds.now)).value }
 {
-    let first = newest(firsts, Cell::default(), n);
-    let last = newest(seconds, first, n);
+    let first = newest(firsts, Cell::default());
+    let last = newest(seconds, first);
     last.value
 }

@@ -133,7 +133,7 @@ fn second_write(cells: &mut [u8], size: Size, rack: usize, r: Rack) -> Rack
         lane,
         rack,
     );
-    let c = block::second_cell(r.firsts, first.value, size.racks);
+    let c = block::second_cell(&r.firsts[..size.racks], first.value);
     cells::write(
         cells,
         size,
@@ -188,8 +188,10 @@ fn block_ended(cells: &[u8], size: Size, rack: usize, r: Rack, gathered: Rack) -
         lane,
         rack,
     );
-    let result = block::result(gathered.seconds, first.value, second.value, size.racks);
-    let news = block::news(gathered.firsts, gathered.seconds, size.racks);
+    let firsts = &gathered.firsts[..size.racks];
+    let seconds = &gathered.seconds[..size.racks];
+    let result = block::result(seconds, first.value, second.value);
+    let news = block::news(firsts, seconds);
     let none = Cell::default();
     let mut q = Rack {
         firsts: [none; 8],

@@ -1,16 +1,14 @@
 -- The cell found is the first committed one.
-use Rattle.std.proofs.Common.{rules, ◌≡◌, sym, ◌∙◌, length}
+use Rattle.std.proofs.Common.{sym, ◌∙◌}
 use Rattle.block.proofs.Read.{adopted_some, adopted_none}
 use Rattle.block.proofs.adopted_value.Goals as goal
 
 pub returns-in-Some : goal.returns-in-Some
 returns-in-Some c =
     let a = c.args in
-    let eight : length a.seconds ≡ 8 = search rules in
-    sym (adopted_some a.seconds a.n eight c.requires a.second c.in-Some.c (sym c.first_committed.ensures ∙ c.in-Some.is))
+    sym (adopted_some a.seconds.now a.second c.in-Some.c (sym c.first_committed.ensures ∙ c.in-Some.is))
 
 pub returns-in-None : goal.returns-in-None
 returns-in-None c =
     let a = c.args in
-    let eight : length a.seconds ≡ 8 = search rules in
-    sym (adopted_none a.seconds a.n eight c.requires a.second (sym c.first_committed.ensures ∙ c.in-None.is))
+    sym (adopted_none a.seconds.now a.second (sym c.first_committed.ensures ∙ c.in-None.is))
