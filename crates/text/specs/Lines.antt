@@ -1,16 +1,6 @@
--- What a function that writes text into a lent buffer leaves, and the texts that lines are made of.
+-- The texts that lines are made of, and the room for a line.
 use Rattle.std.specs.Prelude.{List, [], ◌∷◌, ◌++◌, ℕ, ◌+◌, ◌/◌, ◌%◌, ◌≤◌, length}
-use Rattle.std.proofs.lemmas.List.Edits.{sets}
 use Rattle.laws.specs.Text.{decimal}
-
--- the buffer's bytes, and the place behind the text
-pub record Written : Type 0 where
-  pub bytes : List ℕ
-  pub place : ℕ
-
--- a text written from a place on
-unfoldable pub write : List ℕ → ℕ → List ℕ → Written
-write out at text = record { bytes = sets out at text; place = at + length text }
 
 -- both digits of a number below 100
 abbrev pub two_digits : ℕ → List ℕ
@@ -28,6 +18,10 @@ named word x end = word ++ ended x end
 abbrev pub line_most : ℕ
 line_most = 128
 
--- the bytes from a place on are enough for any line
-abbrev pub LineRoom : List ℕ → ℕ → Type 0
-LineRoom out at = at + line_most ≤ length out
+-- a page of so many bytes has room for any line behind its text
+abbrev pub LineRoom : ℕ → List ℕ → Type 0
+LineRoom most text = length text + line_most ≤ most
+
+-- a text grew by at most a line
+abbrev pub LineMore : List ℕ → List ℕ → Type 0
+LineMore before after = length after ≤ length before + line_most
