@@ -39,7 +39,10 @@ impl<const N: usize> Page<N> {
     pub fn new() -> Page<N>
         ensures { result ≡ [] }
     {
-        Page { bytes: [0; N], count: 0 }
+        Page {
+            bytes: [0; N],
+            count: 0,
+        }
     }
 
     pub fn text(&self) -> &[u8]
@@ -130,7 +133,7 @@ impl<const N: usize> Page<N> {
     }
 
     // "prints `bad size` alone"
-    #[tactic(auto, using(crate::proofs::Lines::bad_size_parts))]
+    #[tactic(auto, unfolding(model::specs::Sheet::bad_size_line))]
     pub fn bad_size(&mut self)
         requires { LineRoom N self.old }
         ensures text { self.new ≡ self.old ++ bad_size_line }
@@ -140,7 +143,7 @@ impl<const N: usize> Page<N> {
     }
 
     // "the first bad cue record prints `bad cues` and its index from 0, alone"
-    #[tactic(auto, using(crate::proofs::Lines::bad_cues_parts))]
+    #[tactic(auto, unfolding(model::specs::Sheet::bad_cues_line, crate::specs::Lines::named, crate::specs::Lines::ended))]
     pub fn bad_cues(&mut self, index: u64)
         requires { LineRoom N self.old }
         ensures text { self.new ≡ self.old ++ bad_cues_line index }
@@ -150,7 +153,7 @@ impl<const N: usize> Page<N> {
     }
 
     // "the size line"
-    #[tactic(auto, using(crate::proofs::Lines::size_parts))]
+    #[tactic(auto, unfolding(model::specs::Sheet::size_line, crate::specs::Lines::named, crate::specs::Lines::ended))]
     pub fn size_line(&mut self, size: Size)
         requires { LineRoom N self.old }
         ensures text { self.new ≡ self.old ++ size_line size }
@@ -162,7 +165,7 @@ impl<const N: usize> Page<N> {
     }
 
     // "for each refused turn `refused`, its index from 0, its number"
-    #[tactic(auto, using(crate::proofs::Lines::refused_parts))]
+    #[tactic(auto, unfolding(model::specs::Sheet::refused_line, crate::specs::Lines::named, crate::specs::Lines::ended))]
     pub fn refused_line(&mut self, index: u64, number: u8)
         requires { LineRoom N self.old }
         ensures text { self.new ≡ self.old ++ refused_line index number }
@@ -173,7 +176,7 @@ impl<const N: usize> Page<N> {
     }
 
     // "a line of turns read, taken and refused"
-    #[tactic(auto, using(crate::proofs::Lines::turns_parts))]
+    #[tactic(auto, unfolding(model::specs::Sheet::turns_line, crate::specs::Lines::named, crate::specs::Lines::ended))]
     pub fn turns_line(&mut self, read: u64, taken: u64, refused: u64)
         requires { LineRoom N self.old }
         ensures text { self.new ≡ self.old ++ turns_line read taken refused }
@@ -185,7 +188,7 @@ impl<const N: usize> Page<N> {
     }
 
     // "`log`, rack, lane, `finished` rounds, `length`"
-    #[tactic(auto, using(crate::proofs::Lines::log_parts))]
+    #[tactic(auto, unfolding(model::specs::Sheet::log_line, crate::specs::Lines::named, crate::specs::Lines::ended))]
     pub fn log_line(&mut self, rack: usize, lane: usize, finished: usize, length: usize)
         requires { LineRoom N self.old }
         ensures text { self.new ≡ self.old ++ log_line rack lane finished length }
@@ -198,7 +201,7 @@ impl<const N: usize> Page<N> {
     }
 
     // "each entry: place, issuer, number, code"
-    #[tactic(auto, using(crate::proofs::Lines::entry_parts))]
+    #[tactic(auto, unfolding(model::specs::Sheet::entry_line, crate::specs::Lines::ended))]
     pub fn entry_line(&mut self, place: usize, issuer: u8, number: u8, code: u16)
         requires { LineRoom N self.old }
         ensures text { self.new ≡ self.old ++ entry_line place issuer number code }
