@@ -1,6 +1,8 @@
+pub mod Chunks
+pub mod Numbers
 pub mod Logs
-pub mod Turns
 pub mod Cues
+pub mod Turns
 pub mod Steady
 pub mod Parts
 pub mod Cut
