@@ -37,7 +37,7 @@ module _ (s : Size) where
   replies_append card [] more = refl
   replies_append card (turn ∷ turns) more = rw (replies_append (turned s card turn).card turns more)
 
-  length_replies : (card : Card) (turns : List (List ℕ)) → length (replies s card turns) ≡ length turns
+  pub length_replies : (card : Card) (turns : List (List ℕ)) → length (replies s card turns) ≡ length turns
   unfolding replies
   length_replies card [] = refl
   length_replies card (turn ∷ turns) = rw (length_replies (turned s card turn).card turns)

@@ -23,6 +23,7 @@ use Rattle.steady.proofs.Turn.{Steady, turn_steady}
 use Rattle.tell.specs.Turns.{Telling, tell_turns, TurnsReady}
 use Rattle.tell.proofs.Chunks.{Chunk, pieces_next, one_more}
 use Rattle.tell.proofs.Numbers.{number_some}
+use Rattle.tell.proofs.Parts.{length_replies}
 
 -- one turn played and told: its line if it is refused, none if it is taken
 unfoldable pub tell_turn : Size → Card → List ℕ → ℕ → ℕ → List ℕ → Telling
@@ -38,6 +39,12 @@ tell_turn s card text index taken turn =
 one_most : (b : Bool) → cond b 1 0 ≤ 1
 one_most true = omega arith
 one_most false = omega arith
+
+-- at most each turn is taken
+taken_most : (numbers : List ℕ) → taken_in numbers ≤ length numbers
+unfolding taken_in
+taken_most [] = omega arith
+taken_most (number ∷ numbers) = omega (arith, one_most (eqb number 0), taken_most numbers)
 
 module _ (s : Size) where
   -- a turn that is taken, and one that is refused, which leaves the racks as they were
@@ -72,6 +79,26 @@ module _ (s : Size) where
       let first : List ℕ = cond (eqb o.number 0) [] (refused_line index o.number) in
       let count : taken + cond (eqb o.number 0) 1 0 + taken_in rest ≡ taken + (cond (eqb o.number 0) 1 0 + taken_in rest) = omega arith in
       rw e (λ i. record { card = after s o.card turns; text = append_assoc text first (refused_lines (suc index) rest) i; taken = count i })
+
+  -- what turns told leave: the card steady, and at most each turn taken
+  turns_steady : (turns : List (List ℕ)) (card : Card) → Steady s card → Steady s (after s card turns)
+  unfolding after
+  turns_steady [] card h = h
+  turns_steady (turn ∷ turns) card h = turns_steady turns (turned s card turn).card (turn_steady s card turn h)
+
+  pub record TurnsMoved (taken count : ℕ) (t : Telling) : Type 0 where
+    pub steady : Steady s t.card
+    pub more : t.taken ≤ taken + count
+
+  pub turns_moved : (turns : List (List ℕ)) (card : Card) (text : List ℕ) (index taken : ℕ) {t : Telling}
+      → t ≡ tell_turns s card text index taken turns → Steady s card → TurnsMoved taken (length turns) t
+  unfolding tell_turns
+  turns_moved turns card text index taken e h =
+      rw e
+      (record {
+        steady = turns_steady turns card h;
+        more = omega (arith, taken_most (replies s card turns), length_replies s card turns);
+      })
 
   -- some turns told, and the bytes of those that are left to tell
   pub record Going (first : Card) (bytes before : List ℕ) (index most : ℕ) (t : Telling) (number : ℕ) (rest : List ℕ) : Type 0 where
