@@ -1,9 +1,9 @@
 -- Chunks of four bytes are the records that `pieces` lists.
-use mathlib.Core.Path.{◌≡◌, refl, ap, ◌∙◌}
+use mathlib.Core.Path.{◌≡◌, ap, ◌∙◌}
 use mathlib.Core.List.{List, [], ◌∷◌, ◌++◌, append-nil}
 use Prim.Native.Nat.{ℕ, suc, ◌+◌, ◌≤◌, ◌<◌, min}
 use native.Mathlib.Omega.{arith}
-use lib.ListN.{length, take, drop, length-append, drop_of_length-le}
+use lib.ListN.{length, length-append, drop_of_length-le}
 use lib.Seq.{take_all, take_at, drop_at}
 use Rattle.std.proofs.lemmas.List.{nil_from_length}
 use Rattle.laws.proofs.Cases.{either, lt_or_ge}

@@ -1,15 +1,14 @@
 -- Cue records added one after the other, to the first bad one.
 use mathlib.Core.Path.{◌≡◌, refl, sym, ap, ◌∙◌}
-use mathlib.Core.List.{List, [], ◌∷◌}
+use mathlib.Core.List.{List, ◌∷◌}
 use Prim.Native.Nat.{ℕ, ◌+◌, ◌≤◌}
 use native.Mathlib.Omega.{arith}
 use native.Mathlib.Numerals.{add-one}
 use borrow.Author.Tests.{eq-eqb, ne_eqb}
 use lib.ListN.{length}
-use lib.Seq.{length-sets}
 use Rattle.laws.proofs.Cases.{either, bool}
 use Rattle.std.proofs.lemmas.List.{nil_from_length}
-use Rattle.model.specs.Cues.{Listed, lists_fit, bad_cue, listed, add_cue}
+use Rattle.model.specs.Cues.{Listed, lists_fit, bad_cue, add_cue}
 use Rattle.model.specs.Night.{pieces}
 use Rattle.model.specs.Refusal.{number_of}
 use Rattle.model.specs.declared.Refusal.{Refusal}

@@ -1,26 +1,26 @@
 -- The lines of a log one behind the other, and that they are the sheet's.
 use mathlib.Core.Path.{◌≡◌, refl, sym}
 use mathlib.Core.List.{List, ◌++◌, append_assoc, append-nil}
-use Prim.Native.Nat.{ℕ, zero, suc, ◌+◌, ◌*◌, ◌-◌, ◌≤◌, ◌<◌, ◌^◌}
+use Prim.Native.Nat.{ℕ, zero, suc, ◌+◌, ◌*◌, ◌-◌, ◌≤◌}
 use native.Mathlib.Omega.{arith}
 use native.Mathlib.Numerals.{add-one}
-use borrow.Author.Tests.{ltb-true, leb-true}
-use lib.Dec.{ltb, leb}
-use lib.ListN.{length, get_or, length-append}
+use borrow.Author.Tests.{ltb-true}
+use lib.Dec.{ltb}
+use lib.ListN.{length}
 use Rattle.model.specs.InUse.{logs_of}
-use Rattle.laws.proofs.Cases.{either, bool, and_true}
+use Rattle.laws.proofs.Cases.{and_true}
 use Rattle.model.specs.declared.Size.{Size}
 use Rattle.model.specs.declared.Cue.{Cue}
 use Rattle.model.specs.Size.{within}
 use Rattle.model.specs.Record.{entry_at, Logs}
 use Rattle.model.specs.Table.{Card, length_from, log_start, log_length, rack_at}
 use Rattle.model.specs.Sound.{sound_cue}
-use Rattle.model.specs.Cues.{list_start, list_length, code_in}
+use Rattle.model.specs.Cues.{code_in}
 use Rattle.model.specs.Sheet.{log_line, entry_line, line_at, entry_lines, log_lines}
 use Rattle.model.proofs.Sizes.{sizes}
 use Rattle.model.proofs.Length.{length_most}
 use Rattle.model.proofs.Start.{log_fits}
-use Rattle.cues.proofs.Lists.{list_within, code_bytes}
+use Rattle.cues.proofs.Lists.{list_within}
 use Rattle.steady.proofs.Logs.{logs_facts}
 use Rattle.tell.specs.Log.{entry_text, entries_text, log_text, EntriesReady, LogReady}
 

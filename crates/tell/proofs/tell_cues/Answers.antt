@@ -1,9 +1,9 @@
 -- The invariant: the records that came are added, and what is left to add gives the whole.
-use mathlib.Core.Path.{◌≡◌, refl, ◌∙◌}
+use mathlib.Core.Path.{refl, ◌∙◌}
 use native.Mathlib.Omega.{arith}
 use Rattle.std.specs.Slice.Iter.{chunks_rest}
 use Rattle.tell.proofs.Chunks.{Chunk}
-use Rattle.tell.proofs.Cues.{adding_first, adding_next, adding_bad, adding_last}
+use Rattle.tell.proofs.Cues.{adding_next, adding_bad, adding_last}
 use Rattle.tell.proofs.tell_cues.Goals as goal
 use Rattle.tell.proofs.tell_cues.Goals.{After-add_cue}
 

@@ -1,7 +1,7 @@
 -- The invariant: the records that came are told, and what is left to tell gives the whole. The card stays steady, so that each turn may be
 -- played without a test.
 use mathlib.Core.Path.{◌∙◌}
-use Prim.Native.Nat.{ℕ, ◌≤◌, ◌<◌}
+use Prim.Native.Nat.{◌≤◌, ◌<◌}
 use native.Mathlib.Omega.{arith}
 use lib.ListN.{length}
 use Rattle.std.specs.Slice.Iter.{chunks_rest}
@@ -41,9 +41,9 @@ offset_bounds-racks-rack g c = omega (arith, there g (goal.at.offset_bounds-rack
 pub bounds-racks-rack : goal.bounds-racks-rack
 bounds-racks-rack g c = there g (goal.at.bounds-racks-rack g c).After-rack_named-rack
 
-pub play_rack-requires-clause-real : goal.play_rack-requires-clause-real
-play_rack-requires-clause-real g c =
-    let h = (goal.at.play_rack-requires-clause-real g c).After-rack_named-rack in
+pub play_rack-requires : goal.play_rack-requires
+play_rack-requires g c =
+    let h = (goal.at.play_rack-requires g c).After-rack_named-rack in
     tested_rack _ (card g h) (playable g h) _ _ c.rack_named-rack.ensures
 
 pub offset_bounds-racks-rack-in-Ok : goal.offset_bounds-racks-rack-in-Ok
