@@ -16,20 +16,23 @@ use Rattle.model.specs.InUse.{tables_of}
 use Rattle.model.specs.Turn.{fits}
 use Rattle.model.specs.Cues.{lists_length, lists_fit}
 use Rattle.model.specs.Sheet.{size_of, size_given}
-use Rattle.model.proofs.Sizes.{sizes, exact_fits}
+use Rattle.model.proofs.Sizes.{sizes, exact_fits, rows_most, records_most}
 
-pub record Given (bytes : List ℕ) : Type 0 where
-  pub four : length bytes ≡ 4
-  pub fit : size_fits (size_of bytes) ≡ true
-
-pub given : (bytes : List ℕ) → size_given bytes ≡ true → Given bytes
+pub given_four : (bytes : List ℕ) → size_given bytes ≡ true → length bytes ≡ 4
 unfolding size_given
-given bytes e =
-    let p = and_true (eqb (length bytes) 4) _ e in
-    let q = and_true (size_fits (size_of bytes)) (eqb (get_or bytes 3 0) 0) p.1 in
-    record { four = eqb-true (length bytes) 4 p.0; fit = q.0 }
+given_four bytes e = eqb-true (length bytes) 4 (and_true (eqb (length bytes) 4) _ e).0
+
+pub given_fits : (bytes : List ℕ) → size_given bytes ≡ true → size_fits (size_of bytes) ≡ true
+unfolding size_given
+given_fits bytes e = (and_true (size_fits (size_of bytes)) (eqb (get_or bytes 3 0) 0) (and_true (eqb (length bytes) 4) _ e).1).0
 
 module _ (s : Size) (e : size_fits s ≡ true) where
+  pub few_records : records s ≤ 2048
+  few_records = records_most s (sizes s e)
+
+  pub few_rows : s.rounds * s.lanes ≤ 256
+  few_rows = rows_most s (sizes s e)
+
   pub few_lists : s.racks * s.lanes ≤ 32
   few_lists = let z = sizes s e in product_le {x = 8} {y = 4} z.racks_high z.lanes_high
 

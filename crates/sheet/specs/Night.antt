@@ -15,10 +15,9 @@ pub record Played (s : Size) (card : Card) (read taken : ℕ) : Type 0 where
   pub steady : Steady s card
   pub fewer : taken ≤ read
 
--- what a part of turns.rec asks: room for its lines and for its count
-pub record PartReady (s : Size) (card : Card) (read taken : ℕ) (out : List ℕ) : Type 0 where
+-- what a part of turns.rec asks: room for its count
+pub record PartReady (s : Size) (card : Card) (read taken : ℕ) : Type 0 where
   pub played : Played s card read taken
-  pub room : 65536 ≤ length out
   pub few : read < 2 ^ 62
 
 -- what a part of turns.rec leaves
@@ -27,25 +26,22 @@ pub record PartDone (s : Size) (card : Card) (before read taken : ℕ) : Type 0 
   pub near : read ≤ before + 512
 
 -- what telling the logs of a rack asks
-pub record RackReady (s : Size) (logs lists : List ℕ) (rack : ℕ) (out : List ℕ) : Type 0 where
+pub record RackReady (s : Size) (logs lists : List ℕ) (rack : ℕ) : Type 0 where
   pub fit : size_fits s ≡ true
   pub exact : length logs ≡ logs_length s
   pub ok : sound_logs s (logs_of logs) ≡ true
   pub lists_fit_is : lists_fit s.racks s.lanes lists ≡ true
   pub rack_there : rack < s.racks
-  pub room : 65536 ≤ length out
 
 -- what telling the logs asks
-pub record LogsReady (s : Size) (logs lists : List ℕ) (racks : List Rack) (out : List ℕ) : Type 0 where
+pub record LogsReady (s : Size) (logs lists : List ℕ) (racks : List Rack) : Type 0 where
   pub fit : size_fits s ≡ true
   pub exact : length logs ≡ logs_length s
   pub ok : sound_logs s (logs_of logs) ≡ true
   pub lists_fit_is : lists_fit s.racks s.lanes lists ≡ true
   pub started : (rack : ℕ) → rack < s.racks → 1 ≤ (rack_at racks rack).round
-  pub room : 65536 ≤ length out
 
--- what playing and telling a night asks: tables that `fresh` fills, cue lists that fit, and room for the lines
-pub record NightReady (s : Size) (t : Tables) (lists out : List ℕ) : Type 0 where
+-- what playing and telling a night asks: tables that `fresh` fills, and cue lists that fit
+pub record NightReady (s : Size) (t : Tables) (lists : List ℕ) : Type 0 where
   pub fit : fits s t ≡ true
   pub lists_fit_is : lists_fit s.racks s.lanes lists ≡ true
-  pub room : 65536 ≤ length out

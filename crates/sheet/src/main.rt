@@ -2,18 +2,21 @@
 // `text`, `cues` and `fresh`; files are read and lines written by `files`; here these are only called.
 #![tactic(auto)]
 
-ghost use Rattle.std.specs.Prelude.{◌≡◌, true, ◌+◌, ◌*◌, ◌≤◌, ◌<◌, length};
+ghost use Rattle.std.specs.Prelude.{◌≡◌, true, ◌*◌, ◌≤◌, IfOk, length};
 ghost use Rattle.model.specs.InUse.{tables_of, card_of};
 ghost use Rattle.model.specs.Size.{size_fits};
 ghost use Rattle.model.specs.Cues.{lists_fit};
 ghost use Rattle.tell.specs.Cut.{cues_read};
+ghost use Rattle.tell.specs.Cues.{loaded};
 ghost use Rattle.sheet.specs.Night.{Played, PartReady, PartDone, RackReady, LogsReady, NightReady};
 ghost use Rattle.sheet.specs.Cut.{CuesOf};
 
-use files::File;
+use files::Told;
 use model::{Rack, Size};
 use std::io::Read;
 use std::rt::Files;
+use tell::BadCue;
+use text::Page;
 
 // How many bytes of size.rec are read: one more than "4 bytes", so that a longer file is seen.
 const GIVEN: usize = 5;
@@ -48,17 +51,15 @@ const LINE: usize = 128;
 // Room for what is printed at once: a line of each record of a part, or the 65 lines of a log.
 const OUT: usize = 512 * LINE;
 
-// The night so far: the racks, how many turns were read and taken, and whether there are more or a failure has been told.
+// The night so far: the racks, and how many turns were read and taken.
 #[derive(Clone, Copy)]
 struct Night {
     racks: [Rack; 8],
     read: u64,
     taken: u64,
-    more: bool,
-    failed: bool,
 }
 
-// One part of turns.rec read, played and told.
+// One part of turns.rec read, played and told; whether the file has ended.
 fn play_some(
     rt: &(impl Print + Eprint),
     file: &mut Option<impl Read>,
@@ -66,46 +67,30 @@ fn play_some(
     cells: &mut [u8],
     logs: &mut [u8],
     decisions: &mut [u8],
-    night: Night,
-    out: &mut [u8],
-) -> Night
-    requires { PartReady size (card_of cells.old logs.old decisions.old night.racks) night.read night.taken out.old }
-    ensures { PartDone size (card_of cells.new logs.new decisions.new result.racks) night.read result.read result.taken }
+    night: &mut Night,
+    page: &mut Page<OUT>,
+) -> Result<bool, Told>
+    requires { PartReady size (card_of cells.old logs.old decisions.old night.old.racks) night.old.read night.old.taken }
+    ensures { PartDone size (card_of cells.new logs.new decisions.new night.new.racks) night.old.read night.new.read night.new.taken }
 {
-    let mut buf = [0u8; PART];
-    let got = files::read_part(rt, file, "turns.rec", &mut buf);
-    let racks = night.racks;
-    if got.failed {
-        return Night {
-            racks,
-            read: night.read,
-            taken: night.taken,
-            more: false,
-            failed: true,
-        };
-    }
-    let n = got.count;
-    let count = tell::records_in(&buf[..n]);
-    let told = tell::tell_turns(
+    let mut buf = [0; PART];
+    let got = files::read_part(rt, file, "turns.rec", &mut buf)?;
+    let part = &buf[..got.count];
+    page.clear();
+    let taken = tell::tell_turns(
         size,
         cells,
         logs,
         decisions,
-        racks,
-        &buf[..n],
+        &mut night.racks,
+        part,
         night.read,
-        out,
+        page,
     );
-    let place = told.place;
-    let after = told.racks;
-    let is_written = files::print(rt, &out[..place]);
-    Night {
-        racks: after,
-        read: night.read + count,
-        taken: night.taken + told.taken,
-        more: !got.ended & is_written,
-        failed: !is_written,
-    }
+    night.read += tell::records_in(part);
+    night.taken += taken;
+    files::print(rt, page.text())?;
+    Ok(got.ended)
 }
 
 // All of turns.rec, part by part.
@@ -117,27 +102,22 @@ fn play_all(
     logs: &mut [u8],
     decisions: &mut [u8],
     racks: [Rack; 8],
-    out: &mut [u8],
-) -> Night
-    requires { PartReady size (card_of cells.old logs.old decisions.old racks) 0 0 out.old }
-    ensures { Played size (card_of cells.new logs.new decisions.new result.racks) result.read result.taken }
+    page: &mut Page<OUT>,
+) -> Result<Night, Told>
+    requires { PartReady size (card_of cells.old logs.old decisions.old racks) 0 0 }
+    ensures { IfOk result (λ night. Played size (card_of cells.new logs.new decisions.new night.racks) night.read night.taken) }
 {
     let mut night = Night {
         racks,
         read: 0,
         taken: 0,
-        more: true,
-        failed: false,
     };
-    let mut left = PARTS;
-    while left > 0 {
-        if !night.more {
-            return night;
+    for _ in 0..PARTS {
+        if play_some(rt, file, size, cells, logs, decisions, &mut night, page)? {
+            break;
         }
-        night = play_some(rt, file, size, cells, logs, decisions, night, out);
-        left -= 1;
     }
-    night
+    Ok(night)
 }
 
 // The logs of one rack.
@@ -148,21 +128,16 @@ fn print_rack(
     lists: &[u8],
     rack: usize,
     finished: usize,
-    out: &mut [u8],
-) -> bool
-    requires { RackReady size logs.now lists.now rack out.old }
+    page: &mut Page<OUT>,
+) -> Result<(), Told>
+    requires { RackReady size logs.now lists.now rack }
 {
-    let lanes = size.lanes;
-    let mut lane: usize = 0;
-    while lane < lanes {
-        let place = tell::tell_log(size, logs, lists, rack, lane, finished, out);
-        let is_written = files::print(rt, &out[..place]);
-        if !is_written {
-            return false;
-        }
-        lane += 1;
+    for lane in 0..size.lanes {
+        page.clear();
+        tell::tell_log(size, logs, lists, rack, lane, finished, page);
+        files::print(rt, page.text())?;
     }
-    true
+    Ok(())
 }
 
 // "then for each rack and lane"
@@ -172,63 +147,41 @@ fn print_racks(
     logs: &[u8],
     lists: &[u8],
     racks: [Rack; 8],
-    out: &mut [u8],
-)
-    requires { LogsReady size logs.now lists.now racks out.old }
+    page: &mut Page<OUT>,
+) -> Result<(), Told>
+    requires { LogsReady size logs.now lists.now racks }
 {
-    let count = size.racks;
-    let mut rack: usize = 0;
-    while rack < count {
-        let r = racks[rack];
-        let finished = (r.round as usize) - 1;
-        let is_written = print_rack(rt, size, logs, lists, rack, finished, out);
-        if !is_written {
-            return;
-        }
-        rack += 1;
+    for rack in 0..size.racks {
+        let finished = usize::from(racks[rack].round) - 1;
+        print_rack(rt, size, logs, lists, rack, finished, page)?;
     }
+    Ok(())
 }
 
 // Opens turns.rec and prints "the size line".
-fn start<R: Files + Print + Eprint>(rt: &R, size: Size) -> File<R::File> {
-    let file = files::open(rt, "turns.rec");
-    if file.failed {
-        return file;
-    }
-    let mut out = [0u8; LINE];
-    let place = text::size_line(&mut out, 0, size);
-    let fine = files::print(rt, &out[..place]);
-    File {
-        failed: !fine,
-        file: file.file,
-    }
+fn start<R: Files + Print + Eprint>(rt: &R, size: Size) -> Result<Option<R::File>, Told> {
+    let file = files::open(rt, "turns.rec")?;
+    let mut page = Page::<LINE>::new();
+    page.size_line(size);
+    files::print(rt, page.text())?;
+    Ok(file)
 }
 
-// "a line of turns read, taken and refused"
-fn print_turns(rt: &(impl Print + Eprint), read: u64, taken: u64, out: &mut [u8]) -> bool
-    requires { (taken ≤ read) × (65536 ≤ length out.old) }
-{
-    let place = text::turns_line(out, 0, read, taken, read - taken);
-    files::print(rt, &out[..place])
-}
-
-// What is printed when all turns are played.
+// What is printed when all turns are played: "a line of turns read, taken and refused", and the logs.
 fn print_played(
     rt: &(impl Print + Eprint),
     size: Size,
     logs: &[u8],
     lists: &[u8],
     night: Night,
-    out: &mut [u8],
-)
-    requires { (night.taken ≤ night.read) × LogsReady size logs.now lists.now night.racks out.old }
+    page: &mut Page<OUT>,
+) -> Result<(), Told>
+    requires { (night.taken ≤ night.read) × LogsReady size logs.now lists.now night.racks }
 {
-    let is_printed = print_turns(rt, night.read, night.taken, out);
-    if !is_printed {
-        return;
-    }
-    let racks = night.racks;
-    print_racks(rt, size, logs, lists, racks, out);
+    page.clear();
+    page.turns_line(night.read, night.taken, night.read - night.taken);
+    files::print(rt, page.text())?;
+    print_racks(rt, size, logs, lists, night.racks, page)
 }
 
 // The night played and told, behind the size line.
@@ -240,128 +193,116 @@ fn print_night(
     logs: &mut [u8],
     decisions: &mut [u8],
     lists: &[u8],
-    out: &mut [u8],
-)
-    requires { NightReady size (tables_of cells.old logs.old decisions.old) lists.now out.old }
+) -> Result<(), Told>
+    requires { NightReady size (tables_of cells.old logs.old decisions.old) lists.now }
 {
-    let reply = fresh::fresh(size, cells, logs, decisions);
-    let racks = reply.racks;
-    let night = play_all(rt, file, size, cells, logs, decisions, racks, out);
-    if night.failed {
-        return;
-    }
-    print_played(rt, size, logs, lists, night, out);
+    let Ok(racks) = fresh::fresh(size, cells, logs, decisions) else {
+        unreachable!();
+    };
+    let mut page = Page::new();
+    let night = play_all(rt, file, size, cells, logs, decisions, racks, &mut page)?;
+    print_played(rt, size, logs, lists, night, &mut page)
 }
 
 // The tables of a size, on the stack.
-fn print_sheet(rt: &(impl Print + Eprint), file: &mut Option<impl Read>, size: Size, lists: &[u8])
+#[tactic(auto, using(crate::proofs::Sizes::few_records, crate::proofs::Sizes::few_rows, crate::proofs::Parts::part_length))]
+fn print_sheet(
+    rt: &(impl Print + Eprint),
+    file: &mut Option<impl Read>,
+    size: Size,
+    lists: &[u8],
+) -> Result<(), Told>
     requires { (size_fits size ≡ true) × (lists_fit size.racks size.lanes lists.now ≡ true) }
 {
-    let mut cells = [0u8; CELLS];
-    let mut logs = [0u8; LOGS];
-    let mut decisions = [0u8; DECISIONS];
-    let mut out = [0u8; OUT];
-    let count = sizes::records(size);
-    let a = 24 * count;
-    let b = 2 * count;
-    let c = size.rounds * size.lanes;
-    print_night(
-        rt,
-        file,
-        size,
-        &mut cells[..a],
-        &mut logs[..b],
-        &mut decisions[..c],
-        lists,
-        &mut out,
-    );
+    let mut cells = [0; CELLS];
+    let mut logs = [0; LOGS];
+    let mut decisions = [0; DECISIONS];
+    let records = sizes::records(size);
+    let cells = &mut cells[..24 * records];
+    let logs = &mut logs[..2 * records];
+    let decisions = &mut decisions[..size.rounds * size.lanes];
+    print_night(rt, file, size, cells, logs, decisions, lists)
 }
 
 // "the first bad cue record prints `bad cues` and its index from 0, alone"
-fn print_bad_cues(rt: &(impl Print + Eprint), index: u64) {
-    let mut out = [0u8; LINE];
-    let place = text::bad_cues(&mut out, 0, index);
-    files::print(rt, &out[..place]);
+fn print_bad_cues(rt: &(impl Print + Eprint), index: u64) -> Result<(), Told> {
+    let mut page = Page::<LINE>::new();
+    page.bad_cues(index);
+    files::print(rt, page.text())
 }
 
 // "prints `bad size` alone"
-fn print_bad_size(rt: &(impl Print + Eprint)) {
-    let mut out = [0u8; LINE];
-    let place = text::bad_size(&mut out, 0);
-    files::print(rt, &out[..place]);
-}
-
-// What reading the cues gave: a failure that has been told, or 0 and their number, or a refusal's number and its index.
-#[derive(Clone, Copy)]
-struct Cues {
-    failed: bool,
-    number: u8,
-    index: u64,
+fn print_bad_size(rt: &(impl Print + Eprint)) -> Result<(), Told> {
+    let mut page = Page::<LINE>::new();
+    page.bad_size();
+    files::print(rt, page.text())
 }
 
 // The cues listed from as much of cues.rec as the room lent takes: with that much these are the cues of the whole file.
-fn list_cues(rt: &(impl Files + Eprint), size: Size, lists: &mut [u8], room: &mut [u8]) -> Cues
+fn list_cues(
+    rt: &(impl Files + Eprint),
+    size: Size,
+    lists: &mut [u8],
+    room: &mut [u8],
+) -> Result<Result<u64, BadCue>, Told>
     requires { length room.old ≡ cues_read }
-    ensures { CuesOf size.racks size.lanes lists.old (record { number = result.number; index = result.index; lists = lists.new }) }
+    ensures { IfOk result (λ cues. CuesOf size.racks size.lanes lists.old (loaded cues lists.new)) }
 {
-    let got = files::load(rt, "cues.rec", room);
-    let n = got.count;
-    let added = tell::tell_cues(size.racks, size.lanes, lists, &room[..n]);
-    Cues {
-        failed: got.failed,
-        number: added.number,
-        index: added.index,
-    }
+    let got = files::load(rt, "cues.rec", room)?;
+    Ok(tell::tell_cues(size.racks, size.lanes, lists, &room[..got.count]))
 }
 
 // The cues read and listed.
-fn load_cues(rt: &(impl Files + Eprint), size: Size, lists: &mut [u8]) -> Cues
-    ensures { CuesOf size.racks size.lanes lists.old (record { number = result.number; index = result.index; lists = lists.new }) }
+fn load_cues(
+    rt: &(impl Files + Eprint),
+    size: Size,
+    lists: &mut [u8],
+) -> Result<Result<u64, BadCue>, Told>
+    ensures { IfOk result (λ cues. CuesOf size.racks size.lanes lists.old (loaded cues lists.new)) }
 {
-    let mut room = [0u8; CUES];
+    let mut room = [0; CUES];
     list_cues(rt, size, lists, &mut room)
 }
 
 // The cues listed in the lists lent, then the sheet.
-fn print_listed(rt: &(impl Files + Print + Eprint), size: Size, lists: &mut [u8])
+#[tactic(auto, using(crate::proofs::Sizes::lists_fit_is))]
+fn print_listed(
+    rt: &(impl Files + Print + Eprint),
+    size: Size,
+    lists: &mut [u8],
+) -> Result<(), Told>
     requires { (size_fits size ≡ true) × (length lists.old ≡ 128 * (size.racks * size.lanes)) }
 {
-    let cues = load_cues(rt, size, lists);
-    if cues.failed {
-        return;
+    if let Err(bad) = load_cues(rt, size, lists)? {
+        return print_bad_cues(rt, bad.index);
     }
-    if cues.number != 0 {
-        print_bad_cues(rt, cues.index);
-        return;
-    }
-    let mut file = start(rt, size);
-    if file.failed {
-        return;
-    }
-    print_sheet(rt, &mut file.file, size, lists);
+    let mut file = start(rt, size)?;
+    print_sheet(rt, &mut file, size, lists)
 }
 
 // The cue lists of a size, on the stack.
-fn print_all(rt: &(impl Files + Print + Eprint), size: Size)
+#[tactic(auto, using(crate::proofs::Sizes::few_lists, crate::proofs::Parts::part_length))]
+fn print_all(rt: &(impl Files + Print + Eprint), size: Size) -> Result<(), Told>
     requires { size_fits size ≡ true }
 {
-    let mut all = [0u8; LISTS];
-    let n = LIST * (size.racks * size.lanes);
-    print_listed(rt, size, &mut all[..n]);
+    let mut lists = [0; LISTS];
+    let lists = &mut lists[..LIST * (size.racks * size.lanes)];
+    print_listed(rt, size, lists)
+}
+
+// What is printed of the three files.
+#[tactic(auto, using(crate::proofs::Sizes::given_four, crate::proofs::Sizes::given_fits))]
+fn print_files(rt: &(impl Files + Print + Eprint)) -> Result<(), Told> {
+    let mut given = [0; GIVEN];
+    let got = files::load(rt, "size.rec", &mut given)?;
+    let given = &given[..got.count];
+    if !tell::size_given(given) {
+        return print_bad_size(rt);
+    }
+    print_all(rt, tell::size_of(given))
 }
 
 fn main(rt: HostRuntime) {
-    let mut given = [0u8; GIVEN];
-    let got = files::load(&rt, "size.rec", &mut given);
-    if got.failed {
-        return;
-    }
-    let n = got.count;
-    let is_given = tell::size_given(&given[..n]);
-    if !is_given {
-        print_bad_size(&rt);
-        return;
-    }
-    let size = tell::size_of(&given[..n]);
-    print_all(&rt, size);
+    // a failure has been told where it happened: the exit status is 0 always
+    let _ = print_files(&rt);
 }

@@ -26,6 +26,12 @@ module _ (s : Size) where
       let fit = fits_size s (tables_of cells logs decisions) f in
       rw (e, f) (record { shape = fresh_shape s; fit = fresh_fits s fit; ok = fresh_sound s fit })
 
+  -- and does not refuse
+  pub filled_taken : (cells logs decisions : List ℕ) (o : Outcome) → o ≡ filled s (tables_of cells logs decisions)
+      → fits s (tables_of cells logs decisions) ≡ true → o.number ≡ 0
+  unfolding filled
+  filled_taken cells logs decisions o e f = rw (e, f)
+
   module _ (card : Card) (h : Steady s card) where
     pub steady_size : size_up_to card.tables.cells.form.most s ≡ true
     steady_size = fits_size s card.tables h.fit

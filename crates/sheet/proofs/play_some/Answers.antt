@@ -1,58 +1,52 @@
 -- The card stays steady, as turns keep it; the lines of a part have room, as its records are at most 512.
+use Prim.Native.Nat.{◌≤◌, ◌+◌}
 use native.Mathlib.Omega.{arith}
+use lib.ListN.{length, take}
+use Rattle.model.specs.InUse.{card_of}
+use Rattle.model.specs.Night.{pieces}
 use Rattle.tell.proofs.Turns.{turns_moved}
-use Rattle.sheet.proofs.Parts.{part_few, part_length}
+use Rattle.sheet.specs.Night.{PartDone}
+use Rattle.sheet.proofs.Parts.{part_few}
+use Rattle.sheet.proofs.play_some.Given.{Over}
 use Rattle.sheet.proofs.play_some.Goals as goal
+use Rattle.sheet.proofs.play_some.Goals.{After-clear, After-records_in}
 
-pub tell_turns-told-requires : goal.tell_turns-told-requires
-tell_turns-told-requires g c =
-    let p = c.requires in
-    let e = c.records_in-count.ensures in
-    let few = part_few _ _ e (omega arith) in
+-- how many records there are at most
+few : (g : Over) (c : After-clear g) → length (pieces (take c.in_ok-got.got.count c.read_part.new.buf)) ≤ 512
+few g c = part_few _ _ c.in_ok-got.ensures.filled.counts.0 c.read_part.auto.buf
+
+-- what the turns told leave
+done : (g : Over) (c : After-records_in g)
+    → PartDone c.args.size (card_of c.tell_turns-taken.new.cells c.tell_turns-taken.new.logs c.tell_turns-taken.new.decisions c.tell_turns-taken.new.racks)
+    c.args.night.now.read (c.args.night.now.read + c.records_in.result) (c.args.night.now.taken + c.tell_turns-taken.result)
+done g c =
+    let played = c.requires.played in
+    let m = turns_moved _ _ _ _ _ _ c.tell_turns-taken.ensures played.steady in
+    let most = part_few _ _ c.in_ok-got.ensures.filled.counts.0 c.read_part.auto.buf in
     record {
-      shape = p.played.steady.shape;
-      fit = p.played.steady.fit;
-      ok = p.played.steady.ok;
-      room = omega (arith, p.room, few, e);
-      few = omega (arith, p.few, few, e);
+      played = record { steady = m.steady; fewer = omega (arith, m.more, c.records_in.ensures, played.fewer) };
+      near = omega (arith, most, c.records_in.ensures);
     }
 
-pub slice_bounds-print-end : goal.slice_bounds-print-end
-slice_bounds-print-end g c =
+pub tell_turns-taken-requires : goal.tell_turns-taken-requires
+tell_turns-taken-requires g c =
     let p = c.requires in
-    let e = c.records_in-count.ensures in
-    let few = part_few _ _ e (omega arith) in
-    let m = turns_moved _ _ _ _ _ _ _ c.tell_turns-told.ensures p.played.steady (omega (arith, p.few, few, e)) in
-    omega (arith, m.near, m.same, p.room, few, e)
+    let most = few g (goal.at.tell_turns-taken-requires g c).After-clear in
+    let steady = p.played.steady in (
+      omega arith,
+      record { shape = steady.shape; fit = steady.fit; ok = steady.ok; room = rw c.clear.ensures (omega (arith, most)); few = omega (arith, p.few, most) },
+    )
 
-pub slice_bounds-print-end-2 : goal.slice_bounds-print-end-2
-slice_bounds-print-end-2 g c =
-    let p = c.requires in
-    let e = c.records_in-count.ensures in
-    let few = part_few _ _ e (omega arith) in
-    let m = turns_moved _ _ _ _ _ _ _ c.tell_turns-told.ensures p.played.steady (omega (arith, p.few, few, e)) in
-    part_length _ _ (omega (arith, m.near, m.same, p.room, few, e))
+pub overflow_add-night : goal.overflow_add-night
+overflow_add-night g c = omega (arith, few g (goal.at.overflow_add-night g c).After-clear, c.records_in.ensures, c.requires.few)
 
-pub overflow_add-result : goal.overflow_add-result
-overflow_add-result g c =
-    let few = part_few _ _ c.records_in-count.ensures (omega arith) in
-    omega (arith, few, c.requires.few)
+pub overflow_add-night-2 : goal.overflow_add-night-2
+overflow_add-night-2 g c =
+    let d = done g (goal.at.overflow_add-night-2 g c).After-records_in in
+    omega (arith, d.played.fewer, d.near, c.requires.few)
 
-pub overflow_add-result-2 : goal.overflow_add-result-2
-overflow_add-result-2 g c =
-    let p = c.requires in
-    let e = c.records_in-count.ensures in
-    let few = part_few _ _ e (omega arith) in
-    let m = turns_moved _ _ _ _ _ _ _ c.tell_turns-told.ensures p.played.steady (omega (arith, p.few, few, e)) in
-    omega (arith, m.more, few, e, p.few, p.played.fewer)
+pub returns-in_err-print : goal.returns-in_err-print
+returns-in_err-print g c = done g (goal.at.returns-in_err-print g c).After-records_in
 
 pub returns : goal.returns
-returns g c =
-    let p = c.requires in
-    let e = c.records_in-count.ensures in
-    let few = part_few _ _ e (omega arith) in
-    let m = turns_moved _ _ _ _ _ _ _ c.tell_turns-told.ensures p.played.steady (omega (arith, p.few, few, e)) in
-    record {
-      played = record { steady = m.steady; fewer = omega (arith, m.more, e, p.played.fewer) };
-      near = omega (arith, few);
-    }
+returns g c = done g (goal.at.returns g c).After-records_in
