@@ -80,8 +80,8 @@ fn tell_entries<const N: usize>(
 {
     for place in 0..count {
         let cue = logs::entry(logs, start + place);
-        let issuer = cue.issuer.into();
-        let number = cue.number.into();
+        let issuer = usize::from(cue.issuer);
+        let number = usize::from(cue.number);
         let code = cues::code_in(lanes, lists, issuer, lane, number);
         page.entry_line(place, cue.issuer, cue.number, code);
     }

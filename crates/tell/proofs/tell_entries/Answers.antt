@@ -8,5 +8,5 @@ loop-place-init g c = entries_none _ _ _ _ _ _
 pub loop-place-preserved : goal.loop-place-preserved
 loop-place-preserved g c =
     entries_next _ _ _ _ _ _ _ _ _ _ c.loop-place.invariant c.entry_line.ensures.text
-    (entry_text_is _ _ _ _ _ _ _ _ _ _ c.entry-cue.ensures c.into-issuer.ensures c.into-number.ensures c.code_in-code.ensures)
+    (entry_text_is _ _ _ _ _ _ _ _ _ _ c.entry-cue.ensures c.from-issuer.ensures c.from-number.ensures c.code_in-code.ensures)
     c.entry_line.ensures.near
