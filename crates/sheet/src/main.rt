@@ -77,18 +77,12 @@ fn play_some(
     let got = files::read_part(rt, file, "turns.rec", &mut buf)?;
     let part = &buf[..got.count];
     page.clear();
-    let taken = tell::tell_turns(
-        size,
-        cells,
-        logs,
-        decisions,
-        &mut night.racks,
-        part,
-        night.read,
-        page,
-    );
+    let racks = night.racks;
+    let told = tell::tell_turns(size, cells, logs, decisions, racks, part, night.read, page);
+    let after = told.racks;
+    night.racks = after;
     night.read += tell::records_in(part);
-    night.taken += taken;
+    night.taken += told.taken;
     files::print(rt, page.text())?;
     Ok(got.ended)
 }

@@ -106,21 +106,28 @@ pub fn tell_log<const N: usize>(
     tell_entries(size.lanes, logs, lists, start, lane, count, page);
 }
 
+// What telling turns hands back: the racks, and how many turns were taken.
+#[derive(Clone, Copy, Debug)]
+pub struct Told {
+    pub racks: [Rack; 8],
+    pub taken: u64,
+}
+
 // "for each refused turn `refused`, its index from 0, its number": plays a part of turns.rec, whose first record has the index given, and
-// writes the refused lines. Gives how many turns were taken. Soundness is not tested between turns: a turn keeps it.
+// writes the refused lines. Soundness is not tested between turns: a turn keeps it.
 pub fn tell_turns<const N: usize>(
     size: Size,
     cells: &mut [u8],
     logs: &mut [u8],
     decisions: &mut [u8],
-    racks: &mut [Rack; 8],
+    mut racks: [Rack; 8],
     bytes: &[u8],
     index: u64,
     page: &mut Page<N>,
-) -> u64
-    requires { TurnsReady size (card_of cells.old logs.old decisions.old racks.old) bytes.now index N page.old }
-    ensures { record { card = card_of cells.new logs.new decisions.new racks.new; text = page.new; taken = result }
-        ≡ tell_turns size (card_of cells.old logs.old decisions.old racks.old) page.old index 0 (pieces bytes.now) }
+) -> Told
+    requires { TurnsReady size (card_of cells.old logs.old decisions.old racks) bytes.now index N page.old }
+    ensures { record { card = card_of cells.new logs.new decisions.new result.racks; text = page.new; taken = result.taken }
+        ≡ tell_turns size (card_of cells.old logs.old decisions.old racks) page.old index 0 (pieces bytes.now) }
 {
     let mut taken = 0;
     let mut number = index;
@@ -135,5 +142,5 @@ pub fn tell_turns<const N: usize>(
         }
         number += 1;
     }
-    taken
+    Told { racks, taken }
 }

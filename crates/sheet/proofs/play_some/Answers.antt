@@ -17,21 +17,21 @@ few g c = part_few _ _ c.in_ok-got.ensures.filled.counts.0 c.read_part.auto.buf
 
 -- what the turns told leave
 done : (g : Over) (c : After-records_in g)
-    → PartDone c.args.size (card_of c.tell_turns-taken.new.cells c.tell_turns-taken.new.logs c.tell_turns-taken.new.decisions c.tell_turns-taken.new.racks)
-    c.args.night.now.read (c.args.night.now.read + c.records_in.result) (c.args.night.now.taken + c.tell_turns-taken.result)
+    → PartDone c.args.size (card_of c.tell_turns-told.new.cells c.tell_turns-told.new.logs c.tell_turns-told.new.decisions c.tell_turns-told.result.racks)
+    c.args.night.now.read (c.args.night.now.read + c.records_in.result) (c.args.night.now.taken + c.tell_turns-told.result.taken)
 done g c =
     let played = c.requires.played in
-    let m = turns_moved _ _ _ _ _ _ c.tell_turns-taken.ensures played.steady in
+    let m = turns_moved _ _ _ _ _ _ c.tell_turns-told.ensures played.steady in
     let most = part_few _ _ c.in_ok-got.ensures.filled.counts.0 c.read_part.auto.buf in
     record {
       played = record { steady = m.steady; fewer = omega (arith, m.more, c.records_in.ensures, played.fewer) };
       near = omega (arith, most, c.records_in.ensures);
     }
 
-pub tell_turns-taken-requires : goal.tell_turns-taken-requires
-tell_turns-taken-requires g c =
+pub tell_turns-told-requires : goal.tell_turns-told-requires
+tell_turns-told-requires g c =
     let p = c.requires in
-    let most = few g (goal.at.tell_turns-taken-requires g c).After-clear in
+    let most = few g (goal.at.tell_turns-told-requires g c).After-clear in
     let steady = p.played.steady in (
       omega arith,
       record { shape = steady.shape; fit = steady.fit; ok = steady.ok; room = rw c.clear.ensures (omega (arith, most)); few = omega (arith, p.few, most) },
