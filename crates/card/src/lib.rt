@@ -28,7 +28,7 @@ pub fn sound(
 }
 
 // One turn: refused with 1 to 8 and nothing changed, or taken.
-#[tactic(auto, using(crate::proofs::Tests::refused))]
+#[tactic(auto, using(crate::proofs::Tests::refused, crate::proofs::Tests::playable, model::proofs::Refusals::not_zero))]
 pub fn turn(
     size: Size,
     cells: &mut [u8],

@@ -18,8 +18,8 @@ use Rattle.model.specs.Sound.{sound_cells, sound_decisions, sound_logs, sound_ta
 use Rattle.model.specs.Turn.{Outcome, bad_record, rack_of, lane_named, source_named, refusal_of, refusal, turned}
 use Rattle.model.proofs.Sizes.{sizes, fits_size}
 use Rattle.model.proofs.Turns.{good}
-use Rattle.step.specs.Ready.{Tested}
-use Rattle.step.proofs.Ready.{tested}
+use Rattle.step.specs.Ready.{Tested, Ready}
+use Rattle.step.proofs.Ready.{tested, ready, unrefused}
 use Rattle.play.specs.Playable.{Playable}
 use Rattle.play.specs.Rack.{RackOutcome, rack_named, rack_turned}
 
@@ -92,6 +92,11 @@ module _ (s : Size) (t : Tables) (r : Rack) (turn : List ℕ) where
   pub rack_bad : bad_record s turn ≡ true → record { number = 3; after = record { tables = t; rack = r } } ≡ rack_turned s t r turn
   unfolding rack_turned
   rack_bad b = rw b
+
+  -- past tests 3 to 8 a step may be taken
+  pub act_ready : (bad_record s turn ≡ false → Tested s t (rack_of turn) r) → bad_record s turn ≡ false
+      → refusal_of s t (rack_of turn) r (lane_named turn) (source_named turn) ≡ 0 → Ready s t (rack_of turn) r
+  act_ready h fine none = ready s t (rack_of turn) r (h fine) (unrefused s t (rack_of turn) r (lane_named turn) (source_named turn) none).unfinished
 
   module _ (fine : bad_record s turn ≡ false) where
     pub rack_refused : (number : ℕ) → number ≡ refusal_of s t (rack_of turn) r (lane_named turn) (source_named turn) → (number ≡ 0 → ⊥)

@@ -31,6 +31,7 @@ pub fn rack_named(size: Size, turn: &[u8]) -> usize
 }
 
 // One turn of the rack that its record names: refused with 3 to 8 and nothing changed, or taken, with the rack afterwards.
+#[tactic(auto, using(model::proofs::Turns::good, model::proofs::Refusals::not_zero, crate::proofs::Turned::act_ready), unfolding(crate::specs::Rack::rack_turned))]
 pub fn play_rack(
     size: Size,
     cells: &mut [u8],
