@@ -26,6 +26,32 @@ fn files(name: &str) -> Vec<(String, String)> {
     modules.collect()
 }
 
+/// The type whose methods an `impl` has: `Page` of `impl<const N: usize> Page<N> {`, `u8` of `impl From<Refusal> for u8 {`.
+fn implemented(line: &str) -> Option<&str> {
+    let behind = line.strip_prefix("impl")?;
+    let mut depth = 0;
+    let head = behind.find(|c| {
+        depth += i32::from(c == '<') - i32::from(c == '>');
+        depth == 0 && c == ' '
+    })?;
+    let of = behind[head + 1..].rsplit(" for ").next()?;
+    of.split(['<', ' ']).next()
+}
+
+#[test]
+fn an_impl_is_of_its_type() {
+    let of = [
+        ("impl Rack {", "Rack"),
+        ("impl<'a> Turns<'a> {", "Turns"),
+        ("impl<const N: usize> Page<N> {", "Page"),
+        ("impl<const N: usize> Model for Page<N> {", "Page"),
+        ("impl From<Refusal> for u8 {", "u8"),
+    ];
+    for (line, name) in of {
+        assert_eq!(implemented(line), Some(name), "{line}");
+    }
+}
+
 /// Every `pub fn` of a crate, with its head: all that stands before its body. A method is named with its type.
 fn exported(name: &str) -> BTreeMap<String, String> {
     let mut found = BTreeMap::new();
@@ -33,8 +59,8 @@ fn exported(name: &str) -> BTreeMap<String, String> {
         let (mut owner, mut open) = (String::new(), None);
         for line in text.lines() {
             let words: Vec<&str> = line.split_whitespace().collect();
-            if words.first() == Some(&"impl") {
-                owner = format!("{}::", words[1]);
+            if let Some(of) = implemented(line) {
+                owner = format!("{of}::");
             }
             if let Some(at) = words.iter().position(|word| *word == "fn") {
                 let function = words[at + 1].split(['(', '<']).next().unwrap();
@@ -65,14 +91,14 @@ fn asks(head: &str) -> bool {
 fn callers(call: &str) -> Names {
     let parts: Vec<&str> = call.split("::").collect();
     let (of, function) = (parts[parts.len() - 2], parts[parts.len() - 1]);
-    let written = if of.starts_with(char::is_uppercase) {
-        format!(".{function}(")
-    } else {
-        format!("{of}::{function}(")
-    };
+    let mut written = vec![format!("{of}::{function}(")];
+    if of.starts_with(char::is_uppercase) {
+        written.push(format!(".{function}("));
+    }
+    let calls = |text: &String| written.iter().any(|call| text.contains(call));
     let others = folder("crates").into_iter().filter(|name| name != parts[0]);
     others
-        .filter(|name| files(name).iter().any(|(_, text)| text.contains(&written)))
+        .filter(|name| files(name).iter().any(|(_, text)| calls(text)))
         .collect()
 }
 
@@ -110,9 +136,17 @@ fn calls(heading: &str) -> Names {
         .collect()
 }
 
-/// The name that an import of a call's contract (`.specs.contracts.`), or of its code or theorem (`.proofs.`), has in a file.
+/// A call's crate, and its function: `turns` and `Turns::over`.
+fn parted(call: &str) -> (&str, &str) {
+    call.split_once("::").expect(call)
+}
+
+/// The name that an import of a call's contract (`.specs.contracts.`), or of its code or theorem (`.proofs.`), has in a file. A method stands
+/// below its type: `Rattle.turns.proofs.Turns.over`.
 fn alias(text: &str, call: &str, inside: &str, theorem: &str) -> String {
-    let import = format!("use Rattle.{}{theorem} as ", call.replace("::", inside));
+    let (of, function) = parted(call);
+    let function = function.replace("::", ".");
+    let import = format!("use Rattle.{of}{inside}{function}{theorem} as ");
     let found = text.lines().find_map(|line| line.strip_prefix(&import));
     found.unwrap_or_else(|| panic!("{import}")).to_string()
 }
@@ -148,7 +182,7 @@ fn every_public_call_has_a_row_and_a_law() {
     let laws = read("crates/promises/proofs/Once.antt");
     let mut kept = Names::new();
     for call in &told {
-        let function = call.split("::").nth(1).unwrap();
+        let function = call.rsplit("::").next().unwrap();
         let (promise, law) = declaration(&laws, &format!("pub {function}_once"));
         let theorem = format!("{}.met", alias(&laws, call, ".proofs.", ".Met"));
         assert!(law.contains(&theorem.as_str()), "{theorem} in Once.antt");
@@ -182,7 +216,7 @@ fn every_public_call_has_a_row_and_a_law() {
 fn every_row_names_what_the_contract_cites() {
     for (call, row) in public_rows() {
         let promise = &row[1];
-        let head = exported(call.split("::").next().unwrap())[&call].clone();
+        let head = exported(parted(&call).0)[&call].clone();
         let ensured = head.split_once("ensures {").expect(&call).1;
         let cited: Names = ensured
             .split(|c: char| c.is_whitespace() || "()".contains(c))
@@ -242,7 +276,7 @@ fn every_row_names_wrong_bodies_that_were_tried() {
     for (call, row) in public_rows() {
         let tried = named_edits(&row[3]);
         assert!(tried.len() >= 2, "{call} has two wrong bodies: {tried:?}");
-        let below = below(call.split("::").next().unwrap());
+        let below = below(parted(&call).0);
         for edit in tried {
             let of = edit.split('/').next().unwrap();
             assert!(below.contains(of), "{edit} of {call}");
@@ -265,6 +299,7 @@ fn every_refusal_has_a_wrong_body_that_was_tried() {
 #[test]
 fn every_promise_names_what_is_lent_for_writing() {
     for (call, head) in PUBLIC.iter().flat_map(|name| exported(name)) {
+        let head = head.replace("&mut self", "self: &mut Self");
         for (lent, _) in head.match_indices(": &mut ") {
             let name = head[..lent].rsplit([' ', '(']).next().unwrap();
             let at_exit = format!("{name}.new");
@@ -280,7 +315,7 @@ fn what_is_exported_to_c_promises_what_its_call_does() {
         let heads = exported(name).into_iter();
         heads
             .map(|(call, head)| {
-                let function = call.split("::").nth(1).unwrap().to_string();
+                let function = parted(&call).1.to_string();
                 (function, head.replace("extern \"C\" ", ""))
             })
             .collect()
@@ -316,9 +351,7 @@ fn every_inner_call_that_requires_something_has_a_row() {
         .filter(|(_, head)| asks(head));
     let told: Names = asking
         .map(|(call, _)| call)
-        .filter(|call| {
-            PUBLIC.contains(&call.split("::").next().unwrap()) || !callers(call).is_empty()
-        })
+        .filter(|call| PUBLIC.contains(&parted(call).0) || !callers(call).is_empty())
         .collect();
     assert_eq!(calls("Inner calls"), told);
     let crates: Names = folder("crates").into_iter().collect();
