@@ -62,8 +62,3 @@ placed n k lists cue e f =
           list_within n k lists (get_or cue 0 0) (get_or cue 1 0) e (leb-false n (get_or cue 0 0) u.0)
           (leb-false k (get_or cue 1 0) v.0);
     }
-
--- a code by its bytes in the lists
-pub code_bytes : (lists : List ℕ) (i : ℕ) → code_at lists i ≡ get_or lists (2 * i) 0 + 256 * get_or lists (2 * i + 1) 0
-unfolding code_at
-code_bytes lists i = simp (get_or-drop, add-zero)

@@ -32,8 +32,8 @@ module _ {F : Type 0} {g : Mut F (ℕ × Unit {0}) Bool} {f : F} {u : Range ℕ}
       → r ≡ below n (λ i. test (a + i))
   all_from a n e t = all_from_yields_List test _ _ r e (YieldsList-from_range a (a + n) n refl (omega arith)) t ∙ sym (below_all_from test a n)
 
-  pub all_below : (n : ℕ) → ChecksAll nat_range_steps g (record { start = 0; end = n }) f r u → Tests g f (λ x. x) test → r ≡ below n test
-  all_below n e t = all_from_yields_List test _ _ r e (YieldsList-from_range 0 n n refl (omega arith)) t ∙ sym (below_all test n)
+  pub all_range : (n : ℕ) → ChecksAll nat_range_steps g (record { start = 0; end = n }) f r u → Tests g f (λ x. x) test → r ≡ below n test
+  all_range n e t = all_from_yields_List test _ _ r e (YieldsList-from_range 0 n n refl (omega arith)) t ∙ sym (below_all test n)
 
 -- the test passes at every element of a list
 pub list_below : {A : Type 0} (test : A → Bool) (d : A) (xs : List A) (n : ℕ) → length xs ≡ n → list_all test xs ≡ below n (λ i. test (get_or xs i d))

@@ -1,5 +1,5 @@
-// The card's types, all by value. What is done with them is defined in specs/, in the words of document 01. The one method settles a lane, since a
-// method stands beside its type; so the logs that it appends to stand here too.
+// The card's types, all by value. What is done with them is defined in specs/, in the words of document 01. A method stands beside its type: so a
+// rack settles a lane here, and the logs that it appends to stand here too.
 #![tactic(auto)]
 
 ghost use Rattle.std.specs.Prelude.{◌≡◌};

@@ -23,6 +23,7 @@ use Rattle.step.proofs.Ready.{tested, ready, unrefused}
 use Rattle.play.specs.Playable.{Playable}
 use Rattle.play.specs.Rack.{RackOutcome, rack_named, rack_turned}
 
+-- the racks with one of them put back as it was
 pub same_racks : (outcome : List Rack → Outcome) (racks : List Rack) (rack : ℕ) → outcome racks ≡ outcome (set racks rack (rack_at racks rack))
 same_racks outcome racks rack = ap outcome (sym (set-get_or racks rack no_rack))
 
@@ -89,23 +90,7 @@ module _ (s : Size) (card : Card) (p : Playable s card) where
       turned_rack = rw e named_turned
 
 module _ (s : Size) (t : Tables) (r : Rack) (turn : List ℕ) where
-  pub rack_bad : bad_record s turn ≡ true → record { number = 3; after = record { tables = t; rack = r } } ≡ rack_turned s t r turn
-  unfolding rack_turned
-  rack_bad b = rw b
-
   -- past tests 3 to 8 a step may be taken
   pub act_ready : (bad_record s turn ≡ false → Tested s t (rack_of turn) r) → bad_record s turn ≡ false
       → refusal_of s t (rack_of turn) r (lane_named turn) (source_named turn) ≡ 0 → Ready s t (rack_of turn) r
   act_ready h fine none = ready s t (rack_of turn) r (h fine) (unrefused s t (rack_of turn) r (lane_named turn) (source_named turn) none).unfinished
-
-  module _ (fine : bad_record s turn ≡ false) where
-    pub rack_refused : (number : ℕ) → number ≡ refusal_of s t (rack_of turn) r (lane_named turn) (source_named turn) → (number ≡ 0 → ⊥)
-        → record { number = number; after = record { tables = t; rack = r } } ≡ rack_turned s t r turn
-    unfolding rack_turned
-    rack_refused number e n = rw (fine, ← e, ne_eqb number 0 n)
-
-    pub rack_taken : refusal_of s t (rack_of turn) r (lane_named turn) (source_named turn) ≡ 0
-        → (a : After) → a ≡ stepped s t (rack_of turn) r (lane_named turn) (source_named turn)
-        → record { number = 0; after = a } ≡ rack_turned s t r turn
-    unfolding rack_turned
-    rack_taken e a f = rw (fine, e, f)

@@ -232,21 +232,7 @@ fn print_bad_size(rt: &(impl Print + Eprint)) -> Result<(), Told> {
     files::print(rt, page.text())
 }
 
-// The cues listed from as much of cues.rec as the room lent takes: with that much these are the cues of the whole file.
-fn list_cues(
-    rt: &(impl Files + Eprint),
-    size: Size,
-    lists: &mut [u8],
-    room: &mut [u8],
-) -> Result<Result<u64, BadCue>, Told>
-    requires { length room.old ≡ cues_read }
-    ensures { IfOk result (λ cues. CuesOf size.racks size.lanes lists.old (loaded cues lists.new)) }
-{
-    let got = files::load(rt, "cues.rec", room)?;
-    Ok(tell::tell_cues(size.racks, size.lanes, lists, &room[..got.count]))
-}
-
-// The cues read and listed.
+// The cues listed from as much of cues.rec as the room takes: with that much these are the cues of the whole file.
 fn load_cues(
     rt: &(impl Files + Eprint),
     size: Size,
@@ -255,7 +241,8 @@ fn load_cues(
     ensures { IfOk result (λ cues. CuesOf size.racks size.lanes lists.old (loaded cues lists.new)) }
 {
     let mut room = [0; CUES];
-    list_cues(rt, size, lists, &mut room)
+    let got = files::load(rt, "cues.rec", &mut room)?;
+    Ok(tell::tell_cues(size.racks, size.lanes, lists, &room[..got.count]))
 }
 
 // The cues listed in the lists lent, then the sheet.

@@ -30,9 +30,6 @@ module _ (n k : ℕ) where
     pub few : index + length rest ≤ length bytes
     pub left : load_cues n k lists index (pieces rest) ≡ load_cues n k before 0 (pieces bytes)
 
-  pub adding_first : (bytes before : List ℕ) → Adding bytes before before 0 bytes
-  adding_first bytes before = record { few = omega arith; left = refl }
-
   module _ (bytes before lists : List ℕ) (index : ℕ) (rest : List ℕ) (g : Adding bytes before lists index rest) where
     pub adding_last : length rest ≡ 0 → ◌≡◌ {A = Loaded} (record { number = 0; index = index; lists = lists }) (load_cues n k before 0 (pieces bytes))
     unfolding load_cues pieces

@@ -109,17 +109,6 @@ module _ (s : Size) where
     pub left : tell_turns s t.card t.text number t.taken (pieces rest) ≡ tell_turns s first before index 0 (pieces bytes)
 
   module _ (first : Card) (bytes before : List ℕ) (index most : ℕ) where
-    pub going_first : TurnsReady s first bytes index most before
-        → Going first bytes before index most (record { card = first; text = before; taken = 0 }) index bytes
-    going_first r =
-        record {
-          steady = record { shape = r.shape; fit = r.fit; ok = r.ok };
-          room = r.room;
-          few = r.few;
-          fewer = omega arith;
-          left = refl;
-        }
-
     module _ (t : Telling) (number : ℕ) (rest : List ℕ) (g : Going first bytes before index most t number rest) where
       pub going_last : length rest ≡ 0 → t ≡ tell_turns s first before index 0 (pieces bytes)
       unfolding pieces

@@ -1,4 +1,4 @@
-// The sheet's work on lent buffers: what `sheet` reads is judged, played and told here, and its main only reads, calls and writes.
+// The sheet's work on lent buffers: what `sheet` reads is judged, played and told here, and its functions only read, call and write.
 #![tactic(auto)]
 
 ghost use Rattle.std.specs.Prelude.{◌≡◌, ◌++◌, ◌≤◌, length};

@@ -28,10 +28,6 @@ decimal_more n h =
     let e : digits n (n / 10) ≡ decimal (n / 10) = digits_same n (suc (n / 10)) (n / 10) (omega arith) (omega arith) in
     rw (le-ltb n 10 h, e)
 
--- a number from 10 to 99 is both its digits
-pub decimal_pair : (n : ℕ) → 10 ≤ n → n < 100 → decimal n ≡ two_digits n
-decimal_pair n h g = decimal_more n h ∙ ap (λ (front : List ℕ). front ++ ((48 + n % 10) ∷ [])) (decimal_less (n / 10) (omega arith))
-
 -- a number from 100 on: the front, then the last two digits
 decimal_hundred : (n : ℕ) → 100 ≤ n → decimal n ≡ decimal (n / 100) ++ two_digits (n % 100)
 decimal_hundred n h =

@@ -1,6 +1,6 @@
 // The public calls tried as a firmware engineer would: wrong lengths, sizes out of range, a changed byte, records of 3 and 5 bytes. Each
 // line says what was tried, the number that came back, and whether the tables and racks are as they were before the call. Every turn is
-// given the racks that the reply before it handed back, so the last two turns show that a night goes on behind refused ones.
+// given the racks that the one before it left, so the last two turns show that a night goes on behind refused ones.
 #![tactic(auto)]
 
 use model::{Rack, Size};

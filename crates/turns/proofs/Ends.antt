@@ -18,13 +18,6 @@ pub record EndAt (length at end : ℕ) : Type 0 where
   pub near : end ≤ at + 4
 
 module _ (bytes : List ℕ) (at end : ℕ) (h : at < length bytes) (e : end ≡ place_behind at (piece_at bytes at)) where
-  pub end_at : EndAt (length bytes) at end
-  unfolding piece_at
-  end_at =
-      either (lt_or_ge (length bytes - at) 4)
-      (λ g. let f = rw (lt-leb (length bytes) at h, lt-ltb _ 4 g) at e in record { later = omega arith; inside = omega arith; near = omega arith })
-      (λ g. let f = rw (lt-leb (length bytes) at h, le-ltb _ 4 g) at e in record { later = omega arith; inside = omega arith; near = omega arith })
-
   -- the record at a place, and those behind it
   pub pieces_next : pieces (drop at bytes) ≡ take (end - at) (drop at bytes) ∷ pieces (drop end bytes)
   unfolding piece_at
