@@ -110,15 +110,14 @@ module _ (s : Size) where
 
   module _ (first : Card) (bytes before : List ℕ) (index most : ℕ) where
     module _ (t : Telling) (number : ℕ) (rest : List ℕ) (g : Going first bytes before index most t number rest) where
-      pub going_last : length rest ≡ 0 → t ≡ tell_turns s first before index 0 (pieces bytes)
-      unfolding pieces
-      going_last h = tell_none t.card t.text number t.taken ∙ rw (nil_from_length rest h) at g.left
+      pub going_last : length (pieces rest) ≡ 0 → t ≡ tell_turns s first before index 0 (pieces bytes)
+      going_last h = tell_none t.card t.text number t.taken ∙ rw (nil_from_length (pieces rest) h) at g.left
 
       module _ (turn behind : List ℕ) (c : Chunk rest turn behind) where
-        pub going_next : (u : Telling) → u ≡ tell_turn s t.card t.text number t.taken turn → length u.text ≤ length t.text + 128
-            → Going first bytes before index most u (number + 1) behind
+        pub going_next : (u : Telling) (next : ℕ) → u ≡ tell_turn s t.card t.text number t.taken turn → length u.text ≤ length t.text + 128
+            → next ≡ number + 1 → Going first bytes before index most u next behind
         unfolding tell_turn
-        going_next u e h =
+        going_next u next e h f =
             let o = turned s t.card turn in
             let one = one_more rest turn behind c in
             let taken = ap (λ (x : Telling). x.taken) e in
@@ -127,7 +126,7 @@ module _ (s : Size) where
               room = omega (arith, one, g.room);
               few = omega (arith, one, g.few);
               fewer = omega (arith, g.fewer, taken, one_most (eqb o.number 0));
-              left = rw add-one
+              left = rw (f, add-one)
                   (tell_next t.card t.text number t.taken turn (pieces behind) u e
                   ∙ rw (pieces_next rest turn behind c) at g.left);
             }

@@ -130,8 +130,7 @@ pub fn tell_turns<const N: usize>(
         ≡ tell_turns size (card_of cells.old logs.old decisions.old racks) page.old index 0 (pieces bytes.now) }
 {
     let mut taken = 0;
-    let mut number = index;
-    for turn in bytes.chunks(RECORD) {
+    for (turn, number) in bytes.chunks(RECORD).zip(index..) {
         let rack = play::rack_named(size, turn);
         match play::play_rack(size, cells, logs, decisions, racks[rack], turn) {
             Ok(after) => {
@@ -140,7 +139,6 @@ pub fn tell_turns<const N: usize>(
             }
             Err(refusal) => page.refused_line(number, refusal.into()),
         }
-        number += 1;
     }
     Told { racks, taken }
 }
