@@ -199,7 +199,7 @@ fn print_night(
 }
 
 // The tables of a size, on the stack.
-#[tactic(auto, using(crate::proofs::Sizes::few_records, crate::proofs::Sizes::few_rows, crate::proofs::Parts::part_length))]
+#[tactic(auto, using(crate::proofs::Sizes::few_records, crate::proofs::Sizes::few_rows, crate::proofs::Sizes::tables_fit, crate::proofs::Parts::part_length))]
 fn print_sheet(
     rt: &(impl Print + Eprint),
     file: &mut Option<impl Read>,
@@ -233,6 +233,7 @@ fn print_bad_size(rt: &(impl Print + Eprint)) -> Result<(), Told> {
 }
 
 // The cues listed from as much of cues.rec as the room takes: with that much these are the cues of the whole file.
+#[tactic(auto, using(crate::proofs::Cut::cues_of_is))]
 fn load_cues(
     rt: &(impl Files + Eprint),
     size: Size,
