@@ -54,13 +54,13 @@ module _ (s : Size) where
   unfolding tell_turn
   told_taken card after text index taken turn e = rw (← e, append-nil)
 
-  pub told_refused : (card : Card) (t : Tables) (racks : List Rack) (rack : ℕ) (text now : List ℕ) (index taken : ℕ) (turn : List ℕ) (refusal : Refusal)
+  pub told_refused : (card : Card) (t : Tables) (racks : List Rack) (rack : ℕ) (text now : List ℕ) (index told number taken : ℕ) (turn : List ℕ) (refusal : Refusal)
       → ◌≡◌ {A = Outcome} (record { number = number_of refusal; card = record { tables = t; racks = set racks rack (rack_at racks rack) } }) (turned s card turn)
-      → now ≡ text ++ refused_line index (number_of refusal)
+      → now ≡ text ++ refused_line told number → told ≡ index → number ≡ number_of refusal
       → record { card = record { tables = t; racks = racks }; text = now; taken = taken } ≡ tell_turn s card text index taken turn
   unfolding tell_turn
-  told_refused card t racks rack text now index taken turn refusal e f =
-      rw (← e, ne_eqb (number_of refusal) 0 (number_some refusal), set-get_or racks rack no_rack, add-zero taken, f)
+  told_refused card t racks rack text now index told number taken turn refusal e f p q =
+      rw (← e, ne_eqb (number_of refusal) 0 (number_some refusal), set-get_or racks rack no_rack, add-zero taken, f, p, q)
 
   -- no turns
   pub tell_none : (card : Card) (text : List ℕ) (index taken : ℕ)

@@ -66,6 +66,7 @@ pub fn tell_cues(racks: usize, lanes: usize, lists: &mut [u8], bytes: &[u8]) -> 
 }
 
 // "under it each entry: place, issuer, number, code", for the first `count` entries of a log.
+#[tactic(auto, using(crate::proofs::Logs::entries_none, crate::proofs::Logs::entries_next, crate::proofs::Logs::entry_text_is))]
 fn tell_entries<const N: usize>(
     lanes: usize,
     logs: &[u8],
@@ -88,6 +89,7 @@ fn tell_entries<const N: usize>(
 }
 
 // "then for each rack and lane `log`, rack, lane, `finished` rounds, `length`, and under it each entry": one log.
+#[tactic(auto, using(model::proofs::Start::log_fits, crate::proofs::Logs::log_text_is))]
 pub fn tell_log<const N: usize>(
     size: Size,
     logs: &[u8],

@@ -75,12 +75,13 @@ loop-turn-preserved g c =
     let inv = c.loop-turn.invariant in
     let steps = c.in-Some.ensures.steps in
     let turned = turned_rack _ (card g h) (playable g h) _ _ c.rack_named-rack.ensures _ c.in-Err.ensures in
-    let line = rw (c.into.ensures, steps.1.0) at c.refused_line.ensures.text in
     record {
       can = (omega (arith, steps.0.0, inv.size), tt);
       ends = tt;
       size = steps.0.0 ∙ inv.size;
-      going = going_next _ _ _ _ _ _ _ _ _ inv.going _ _ (chunk g h) _ _ (told_refused _ _ _ _ _ _ _ _ _ _ _ turned line) c.refused_line.ensures.near (omega (arith, steps.1));
+      going = going_next _ _ _ _ _ _ _ _ _ inv.going _ _ (chunk g h) _ _
+          (told_refused _ _ _ _ _ _ _ _ _ _ _ _ _ turned c.refused_line.ensures.text steps.1.0 c.into.ensures)
+          c.refused_line.ensures.near (omega (arith, steps.1));
     }
 
 pub returns : goal.returns
