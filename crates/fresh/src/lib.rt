@@ -53,6 +53,7 @@ fn fresh_state(size: Size, rack: u8) -> Rack
     }
 }
 
+// The states of all eight racks, of which those not fitted are zeros.
 #[tactic(auto, unfolding(model::specs::Fresh::table))]
 fn fresh_racks(size: Size) -> [Rack; 8]
     ensures { result ≡ fresh_racks size }

@@ -162,18 +162,29 @@ pub enum Kind {
 // Why a call was refused: the lines of the document's table, each with its number.
 #[derive(Clone, Copy, Debug, PartialEq, Eq)]
 pub enum Refusal {
+    // "n, k or R outside its range, or a lent length not exact"
     Misfit = 1,
+    // "tables or states not sound"
     Unsound = 2,
+    // "turn not 4 bytes, last byte not zero, or rack at or above n"
     BadRecord = 3,
+    // "rack has finished R rounds"
     Finished = 4,
+    // "not an answer step and lane or source is not 255; or an answer step and lane at or above k, or source at or above n"
     Misnamed = 5,
+    // "answer: that source has no offer in this round at that lane"
     NotOffered = 6,
+    // "answer: the lane is decided for another source"
     DecidedElse = 7,
+    // "last step: settling would make a log longer than R"
     Overfull = 8,
+    // "log query: rack, lane or place not there"
     NotThere = 9,
+    // "cue record: rack, lane or code out of range, a 65th cue, or a short record"
     BadCue = 10,
 }
 
+// "A refusal returns its number"
 impl From<Refusal> for u8 {
     ghost from_gives = { λ refusal number. number ≡ number_of refusal };
 

@@ -77,10 +77,19 @@ fn play_some(
     let got = files::read_part(rt, file, "turns.rec", &mut buf)?;
     let part = &buf[..got.count];
     page.clear();
-    let racks = night.racks;
-    let told = tell::tell_turns(size, cells, logs, decisions, racks, part, night.read, page);
-    let after = told.racks;
-    night.racks = after;
+    let told = tell::tell_turns(
+        size,
+        cells,
+        logs,
+        decisions,
+        night.racks,
+        part,
+        night.read,
+        page,
+    );
+    // the prover follows an array into a field from a variable only
+    let racks = told.racks;
+    night.racks = racks;
     night.read += tell::records_in(part);
     night.taken += told.taken;
     files::print(rt, page.text())?;

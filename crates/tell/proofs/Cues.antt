@@ -14,7 +14,7 @@ use Rattle.model.specs.Refusal.{number_of}
 use Rattle.model.specs.declared.Refusal.{Refusal}
 use Rattle.model.specs.Sheet.{Loaded, load_cues}
 use Rattle.tell.proofs.Chunks.{Chunk, pieces_next, less}
-use Rattle.tell.proofs.Numbers.{number_some}
+use Rattle.model.proofs.Refusals.{not_zero}
 
 -- a refused record leaves the lists
 stays : (n k : ℕ) (lists cue : List ℕ) → ((add_cue n k lists cue).number ≡ 0 → ⊥) → (add_cue n k lists cue).lists ≡ lists
@@ -54,4 +54,4 @@ module _ (n k : ℕ) where
       unfolding load_cues
       adding_bad refusal d =
           let e : (add_cue n k lists cue).number ≡ number_of refusal = sym (ap (λ (x : Listed). x.number) f) ∙ d in
-          rw (ap (λ (x : Listed). x.lists) f, stays n k lists cue (λ z. number_some refusal (sym e ∙ z)), ← e) (rw (ne_eqb _ 0 (λ z. number_some refusal (sym e ∙ z))) at left_next)
+          rw (ap (λ (x : Listed). x.lists) f, stays n k lists cue (λ z. not_zero refusal (sym e ∙ z)), ← e) (rw (ne_eqb _ 0 (λ z. not_zero refusal (sym e ∙ z))) at left_next)

@@ -1,5 +1,4 @@
 pub mod Chunks
-pub mod Numbers
 pub mod Logs
 pub mod Cues
 pub mod Turns

@@ -22,7 +22,7 @@ use Rattle.model.specs.Sheet.{refused_line, refused_lines, taken_in}
 use Rattle.steady.proofs.Turn.{Steady, turn_steady}
 use Rattle.tell.specs.Turns.{Telling, tell_turns, TurnsReady}
 use Rattle.tell.proofs.Chunks.{Chunk, pieces_next, one_more}
-use Rattle.tell.proofs.Numbers.{number_some}
+use Rattle.model.proofs.Refusals.{not_zero}
 use Rattle.tell.proofs.Parts.{length_replies}
 
 -- one turn played and told: its line if it is refused, none if it is taken
@@ -60,7 +60,7 @@ module _ (s : Size) where
       → record { card = record { tables = t; racks = racks }; text = now; taken = taken } ≡ tell_turn s card text index taken turn
   unfolding tell_turn
   told_refused card t racks rack text now index told number taken turn refusal e f p q =
-      rw (← e, ne_eqb (number_of refusal) 0 (number_some refusal), set-get_or racks rack no_rack, add-zero taken, f, p, q)
+      rw (← e, ne_eqb (number_of refusal) 0 (not_zero refusal), set-get_or racks rack no_rack, add-zero taken, f, p, q)
 
   -- no turns
   pub tell_none : (card : Card) (text : List ℕ) (index taken : ℕ)

@@ -1,4 +1,4 @@
-// The sheet's work on lent buffers: what `sheet` reads is judged, played and told here, and its functions only read, call and write.
+// The sheet's work on lent tables and a page of lines: what `sheet` reads is judged, played and told here, and its functions only read, call and write.
 #![tactic(auto)]
 
 ghost use Rattle.std.specs.Prelude.{◌≡◌, ◌++◌, ◌≤◌, length};

@@ -9,7 +9,7 @@ use model::{Rack, Size};
 const OFFER: [u8; 4] = [0, 255, 255, 0];
 
 // What a firmware keeps of a night: the tables, of any lengths, and the racks.
-#[derive(Clone, Copy, PartialEq)]
+#[derive(Clone, Copy, Debug, PartialEq, Eq)]
 struct Card<const C: usize, const L: usize, const D: usize> {
     cells: [u8; C],
     logs: [u8; L],
@@ -19,10 +19,10 @@ struct Card<const C: usize, const L: usize, const D: usize> {
 
 impl<const C: usize, const L: usize, const D: usize> Card<C, L, D> {
     // One turn with one lane and one round, told; a refused one hands back no racks, so those given go on.
-    fn tried(&mut self, rt: &impl Print, what: &str, racks: usize, turn: &[u8]) {
+    fn tried(&mut self, rt: &impl Print, what: &str, fitted: usize, turn: &[u8]) {
         let before = *self;
         let size = Size {
-            racks,
+            racks: fitted,
             lanes: 1,
             rounds: 1,
         };

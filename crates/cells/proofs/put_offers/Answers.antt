@@ -1,9 +1,7 @@
 -- After each lane the part holds the offers of the lanes so far.
-use mathlib.Core.Path.{◌≡◌, ◌∙◌}
-use native.Mathlib.Omega.{arith}
+use mathlib.Core.Path.{◌∙◌}
 use native.Mathlib.Numerals.{add-one}
 use borrow.Author.Rules.{rules}
-use Rattle.laws.proofs.Index.{cell_below}
 use Rattle.cells.specs.Parts.{offers_in}
 use Rattle.cells.proofs.put_offers.Goals as goal
 
@@ -11,19 +9,9 @@ pub loop-lane-init : goal.loop-lane-init
 unfolding offers_in
 loop-lane-init c = search rules
 
-pub put-requires : goal.put-requires
-put-requires c =
-    let b = cell_below {i = c.loop-lane.lane} {k = c.args.k} {r = c.args.rack} {n = c.args.n} c.loop-lane-test.true c.requires.1.1 in
-    omega arith
-
 pub loop-lane-preserved : goal.loop-lane-preserved
 unfolding offers_in
 loop-lane-preserved c =
     let l = c.loop-lane in
     let s = c.put.ensures in
     (search rules, (c.put.auto.part ∙ l.invariant.1.0, rw (add-one, s, c.offered.ensures, l.invariant.1.1)))
-
-pub returns : goal.returns
-returns c =
-    let e : c.loop-lane.lane ≡ c.args.k = omega arith in
-    rw (← e) c.loop-lane.invariant.1.1

@@ -1,7 +1,6 @@
 -- The part of one round comes back with the record stored, which `store_part` says of the whole table.
 use mathlib.Core.Path.{ap}
 use Prim.Native.Nat.{◌+◌, ◌*◌, ◌-◌}
-use lib.ListN.{length-take, length-drop}
 use Rattle.model.specs.InUse.{cells_of}
 use Rattle.model.proofs.Record.{store_part}
 use native.Mathlib.Omega.{arith}
@@ -40,11 +39,6 @@ overflow_add-e c = omega (arith, room_of c.requires c.index.ensures)
 
 pub slice_bounds-put-end : goal.slice_bounds-put-end
 slice_bounds-put-end c = omega (arith, room_of c.requires c.index.ensures)
-
-pub put-requires : goal.put-requires
-put-requires c =
-    let w = room_of c.requires c.index.ensures in
-    simp (length-take, length-drop) (omega arith)
 
 pub returns : goal.returns
 returns c =

@@ -1,7 +1,7 @@
 -- The invariant: the table and the rack are what the lanes so far leave. So each lane has room when its turn comes.
 use lib.ListN.{length}
 use native.Mathlib.Omega.{arith}
-use mathlib.Core.Path.{◌≡◌, sym, ap, subst, ◌∙◌}
+use mathlib.Core.Path.{sym, ap, subst, ◌∙◌}
 use Prim.Native.Nat.{ℕ, ◌+◌, ◌*◌, ◌-◌, ◌≤◌, ◌<◌}
 use native.Mathlib.Numerals.{add-one}
 use borrow.Author.Rules.{rules}
@@ -85,8 +85,3 @@ loop-lane-preserved c =
             ∙ ap (λ (x : Settled). settle_lane a.size a.rack x.logs x.rack loop.lane) loop.invariant.1.1),
       ),
     )
-
-pub returns : goal.returns
-returns c =
-    let e : c.loop-lane.lane ≡ c.args.size.lanes = omega arith in
-    rw e at c.loop-lane.invariant.1.1

@@ -1,12 +1,12 @@
 -- A card filled afresh is steady, and stays so while its turns are played.
 use native.Mathlib.Omega.{arith}
 use Rattle.model.proofs.Sizes.{fits_exact}
-use Rattle.tell.proofs.Numbers.{number_some}
+use Rattle.model.proofs.Refusals.{not_zero}
 use Rattle.tell.proofs.Steady.{filled_steady, filled_taken, steady_size, steady_logs, steady_round}
 use Rattle.sheet.proofs.print_night.Goals as goal
 
 pub unreachable-requires : goal.unreachable-requires
-unreachable-requires g c = number_some _ (filled_taken _ _ _ _ _ c.in_default.ensures c.requires.fit)
+unreachable-requires g c = not_zero _ (filled_taken _ _ _ _ _ c.in_default.ensures c.requires.fit)
 
 pub play_all-requires : goal.play_all-requires
 play_all-requires g c =

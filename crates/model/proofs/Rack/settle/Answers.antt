@@ -72,10 +72,6 @@ pub store-requires-then-is_committed-place : goal.store-requires-then-is_committ
 store-requires-then-is_committed-place c =
     omega (arith, room (goal.at.store-requires-then-is_committed-place c).Then-is_committed-place, c.if-news-length.auto.log)
 
-pub overflow_add-length-then-is_committed-place : goal.overflow_add-length-then-is_committed-place
-overflow_add-length-then-is_committed-place c =
-    omega (arith, room (goal.at.overflow_add-length-then-is_committed-place c).Then-is_committed-place)
-
 -- the log that the two rules leave is within what is lent, and short
 short : (c : Joined-is_committed-place)
     → (2 * c.if-is_committed-place.length ≤ length c.if-is_committed-place.log) × (c.if-is_committed-place.length ≤ 64)

@@ -2,13 +2,9 @@
 use Prim.Native.Nat.{◌+◌, ◌-◌}
 use mathlib.Core.Path.{sym, ◌∙◌}
 use native.Mathlib.Omega.{arith}
-use native.Mathlib.Nat.{add-zero, zero-add, sub-zero}
 use Rattle.model.specs.InUse.{logs_of}
 use Rattle.model.proofs.Length.{length_zero, length_next, length_most}
 use Rattle.model.proofs.logs.length_from.Goals as goal
-
-pub loop-i-init : goal.loop-i-init
-loop-i-init c = (omega arith, simp (add-zero, zero-add, sub-zero))
 
 pub returns-then-zero_at : goal.returns-then-zero_at
 returns-then-zero_at c =

@@ -1,5 +1,4 @@
 -- The invariant: the count among the records passed, which is at most as many as they are.
-use mathlib.Core.Path.{◌≡◌}
 use native.Mathlib.Omega.{arith}
 use native.Mathlib.Numerals.{add-one}
 use borrow.Author.Rules.{rules}
@@ -27,8 +26,3 @@ loop-i-preserved c = (
         | else-entry-rack w ↦ rw (w.own-is, ← c.entry.ensures, ne_eqb _ _ w.if-entry-rack.false, c.loop-i.invariant.1) (omega arith)
       ]),
 )
-
-pub returns : goal.returns
-returns c =
-    let e : c.loop-i.i ≡ c.args.count = omega arith in
-    rw (← e) c.loop-i.invariant.1
