@@ -4,15 +4,13 @@ use mathlib.Core.List.{List}
 use mathlib.Core.Bool.{Bool, true, false, not, ◌&&◌, ◌||◌}
 use Prim.Native.Nat.{ℕ, ◌+◌, ◌*◌, ◌≤◌, ◌<◌}
 use native.Mathlib.Omega.{arith}
-use native.Mathlib.Nat.{add-zero}
 use borrow.Author.Tests.{leb-true, leb-false, eqb-true, not-false}
 use lib.Dec.{eqb, leb}
 use lib.ListN.{length, get_or}
-use lib.Seq.{get_or-drop}
 use Rattle.laws.proofs.Cases.{and_true, or_false}
 use Rattle.laws.proofs.Index.{cell_below, product_le}
 use Rattle.model.specs.Size.{within}
-use Rattle.model.specs.Cues.{list_most, lists_length, lists_fit, list_start, list_length, code_at, bad_cue}
+use Rattle.model.specs.Cues.{list_most, lists_length, lists_fit, list_start, list_length, bad_cue}
 use Rattle.cues.specs.Adding.{out_of_range, Placed}
 
 -- a last test taken apart from those before it

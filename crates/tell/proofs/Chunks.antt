@@ -33,9 +33,6 @@ module _ (bytes chunk rest : List ℕ) (c : Chunk bytes chunk rest) where
       let four : length chunk ≡ 4 = omega (arith, c.size) in
       all ∙ rw (c.parts, take_at chunk rest 4 four, drop_at chunk rest 4 four))
 
-  pub less : length rest < length bytes
-  less = omega (arith, sum, c.size, c.some)
-
   -- a record more is there than is left
   pub one_more : length (pieces bytes) ≡ suc (length (pieces rest))
   one_more = ap length pieces_next

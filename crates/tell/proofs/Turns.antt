@@ -1,5 +1,5 @@
 -- Turns told one after the other are turns told at once.
-use mathlib.Core.Path.{◌≡◌, refl, ap, ◌∙◌}
+use mathlib.Core.Path.{◌≡◌, ap, ◌∙◌}
 use mathlib.Core.List.{List, [], ◌∷◌, ◌++◌, append_assoc, append-nil}
 use mathlib.Core.Bool.{Bool, true, false, cond}
 use Prim.Native.Nat.{ℕ, suc, ◌+◌, ◌*◌, ◌≤◌, ◌<◌, ◌^◌}
@@ -20,7 +20,7 @@ use Rattle.model.specs.Turn.{Outcome, turned}
 use Rattle.model.specs.Night.{after, replies, pieces}
 use Rattle.model.specs.Sheet.{refused_line, refused_lines, taken_in}
 use Rattle.steady.proofs.Turn.{Steady, turn_steady}
-use Rattle.tell.specs.Turns.{Telling, tell_turns, TurnsReady}
+use Rattle.tell.specs.Turns.{Telling, tell_turns}
 use Rattle.tell.proofs.Chunks.{Chunk, pieces_next, one_more}
 use Rattle.model.proofs.Refusals.{not_zero}
 use Rattle.tell.proofs.Parts.{length_replies}

@@ -55,14 +55,12 @@ pub struct BadCue {
 pub fn tell_cues(racks: usize, lanes: usize, lists: &mut [u8], bytes: &[u8]) -> Result<u64, BadCue>
     ensures { loaded result lists.new ≡ load_cues racks lanes lists.old 0 (pieces bytes.now) }
 {
-    let mut index = 0;
-    for cue in bytes.chunks(RECORD) {
+    for (cue, index) in bytes.chunks(RECORD).zip(0..) {
         if let Err(refusal) = cues::add_cue(racks, lanes, lists, cue) {
             return Err(BadCue { refusal, index });
         }
-        index += 1;
     }
-    Ok(index)
+    Ok(records_in(bytes))
 }
 
 // "under it each entry: place, issuer, number, code", for the first `count` entries of a log.

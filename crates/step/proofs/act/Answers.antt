@@ -2,14 +2,11 @@
 use mathlib.Core.Path.{sym, ◌∙◌}
 use Rattle.model.proofs.Sizes.{sizes}
 use Rattle.kind.proofs.Places.{first_write_place, first_read_place, second_write_place}
-use Rattle.step.proofs.Arms.{at_cells, in_block, both_decided, at_decisions, settling, offer_taken, answer_taken, first_write_taken, first_read_taken, second_write_taken, second_read_taken_is}
+use Rattle.step.proofs.Arms.{in_block, both_decided, at_decisions, settling, offer_taken, answer_taken, first_write_taken, first_read_taken, second_write_taken, second_read_taken_is}
 use Rattle.step.proofs.act.Goals as goal
 
 pub kind_of-requires : goal.kind_of-requires
 kind_of-requires c = (sizes _ c.requires.0.tested.exact.size).racks_high
-
-pub offer-requires : goal.offer-requires
-offer-requires c = at_cells c.requires.0
 
 pub answer-requires : goal.answer-requires
 answer-requires c =

@@ -8,6 +8,3 @@ bounds-decisions-i c = decision_there c.requires _ c.decision_index-i.ensures
 
 pub advanced-requires : goal.advanced-requires
 advanced-requires c = omega (arith, step_small c.requires.round)
-
-pub returns : goal.returns
-returns c = rw (c.advanced.ensures, c.decision_index-i.ensures)

@@ -4,6 +4,3 @@ use Rattle.step.proofs.decision_at.Goals as goal
 
 pub bounds-decisions-i : goal.bounds-decisions-i
 bounds-decisions-i c = decision_there c.requires _ c.decision_index-i.ensures
-
-pub returns : goal.returns
-returns c = rw c.decision_index-i.ensures

@@ -1,4 +1,4 @@
--- The two calls are the text of `offering`.
+-- The cells written are the rack's own; the step rises without wrapping.
 use native.Mathlib.Omega.{arith}
 use Rattle.step.proofs.Places.{step_small, here, first_lane}
 use Rattle.step.proofs.offer.Goals as goal
@@ -10,6 +10,3 @@ write_offers-requires c =
 
 pub advanced-requires : goal.advanced-requires
 advanced-requires c = omega (arith, step_small c.requires.round)
-
-pub returns : goal.returns
-returns c = rw (c.advanced.ensures, c.write_offers.ensures)

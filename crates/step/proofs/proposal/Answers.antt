@@ -2,17 +2,11 @@
 use native.Mathlib.Omega.{arith}
 use borrow.Author.Tests.{eq-eqb, ne_eqb}
 use Rattle.model.specs.Step.{proposal}
-use Rattle.step.proofs.Places.{racks_few, lane_few, block_here}
+use Rattle.step.proofs.Places.{racks_few, lane_few}
 use Rattle.step.proofs.proposal.Goals as goal
 
 pub lane_at-lane-requires : goal.lane_at-lane-requires
 lane_at-lane-requires c = racks_few c.requires.block.at.round
-
-pub read-c-requires : goal.read-c-requires
-read-c-requires c =
-    let p = c.requires in
-    block_here p.block 0 _ _ (omega arith) c.lane_at-lane.ensures
-    (rw (c.decision_at-source.ensures, c.if-lane-first.true) p.source_there)
 
 pub returns-then-lane-first : goal.returns-then-lane-first
 unfolding proposal

@@ -15,16 +15,6 @@ pub returns-then-not-is_last : goal.returns-then-not-is_last
 unfolding second_reading
 returns-then-not-is_last c = rw (c.after_second_read-read.ensures, sym c.is_last.ensures ∙ c.if-not-is_last.true)
 
-pub settle_lanes-settled-requires : goal.settle_lanes-settled-requires
-settle_lanes-settled-requires c =
-    let p = c.requires in
-    record {
-      lent = record { sizes = p.block.at.round.size; exact = p.exact; rack_there = p.block.at.rack_there };
-      room =
-          rw c.after_second_read-read.ensures
-          (p.room (sym c.is_last.ensures ∙ c.if-not-is_last.false));
-    }
-
 pub round_ended-requires : goal.round_ended-requires
 round_ended-requires c = omega (arith, ended_round _ _ _ _ _ _ c.requires.block.at.round c.after_second_read-read.ensures c.settle_lanes-settled.ensures)
 
