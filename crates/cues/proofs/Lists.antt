@@ -1,4 +1,4 @@
--- What the tests of a cue record and of the lists say, and where a list stands.
+-- What the tests of a cue record and of the lists say, where a list stands, and that a refused record leaves the lists.
 use mathlib.Core.Path.{◌≡◌, refl}
 use mathlib.Core.List.{List}
 use mathlib.Core.Bool.{Bool, true, false, not, ◌&&◌, ◌||◌}
@@ -7,10 +7,10 @@ use native.Mathlib.Omega.{arith}
 use borrow.Author.Tests.{leb-true, leb-false, eqb-true, not-false}
 use lib.Dec.{eqb, leb}
 use lib.ListN.{length, get_or}
-use Rattle.laws.proofs.Cases.{and_true, or_false}
+use Rattle.laws.proofs.Cases.{either, bool, and_true, or_false}
 use Rattle.laws.proofs.Index.{cell_below, product_le}
 use Rattle.model.specs.Size.{within}
-use Rattle.model.specs.Cues.{list_most, lists_length, lists_fit, list_start, list_length, bad_cue}
+use Rattle.model.specs.Cues.{list_most, lists_length, lists_fit, list_start, list_length, bad_cue, add_cue}
 use Rattle.cues.specs.Adding.{out_of_range, Placed}
 
 -- a last test taken apart from those before it
@@ -60,3 +60,11 @@ placed n k lists cue e f =
           list_within n k lists (get_or cue 0 0) (get_or cue 1 0) e (leb-false n (get_or cue 0 0) u.0)
           (leb-false k (get_or cue 1 0) v.0);
     }
+
+-- "A refusal returns its number and zeros; tables, states and lists stay as before."
+pub lists_stay : (n k : ℕ) (lists cue : List ℕ) → ((add_cue n k lists cue).number ≡ 0 → ⊥) → (add_cue n k lists cue).lists ≡ lists
+unfolding add_cue
+lists_stay n k lists cue m =
+    either (bool (lists_fit n k lists))
+    (λ e. either (bool (bad_cue n k lists cue)) (λ f. rw (e, f)) (λ f. absurd (m (rw (e, f)))))
+    (λ e. rw e)

@@ -1,6 +1,5 @@
--- "A refusal returns its number and zeros; tables, states and lists stay as before." For a turn: `turn_stays` in model's proofs.
+-- "A refusal returns its number and zeros; tables, states and lists stay as before." For a turn: `turn_stays` in model's proofs; for a cue record: `lists_stay` in those of cues.
 use mathlib.Core.Path.{◌≡◌, refl}
-use mathlib.Core.List.{List}
 use Prim.Native.Nat.{ℕ}
 use lib.ListN.{replicate}
 use Rattle.std.specs.Prelude.{Ok, Err}
@@ -12,20 +11,11 @@ use Rattle.model.specs.Table.{Tables}
 use Rattle.model.specs.Turn.{fits}
 use Rattle.model.specs.Fresh.{zero_rack, filled}
 use Rattle.model.specs.Refusal.{Answer, answer_number, answer_value}
-use Rattle.model.specs.Cues.{lists_fit, bad_cue, add_cue}
 
 -- a refused fresh leaves the tables, and its racks are zeros
 pub fresh_stays : (s : Size) (t : Tables) → ((filled s t).number ≡ 0 → ⊥) → (filled s t).card ≡ record { tables = t; racks = replicate 8 zero_rack }
 unfolding filled
 fresh_stays s t n = either (bool (fits s t)) (λ e. absurd (n (rw e))) (λ e. rw e)
-
--- a refused cue record leaves the lists
-pub lists_stay : (n k : ℕ) (lists cue : List ℕ) → ((add_cue n k lists cue).number ≡ 0 → ⊥) → (add_cue n k lists cue).lists ≡ lists
-unfolding add_cue
-lists_stay n k lists cue m =
-    either (bool (lists_fit n k lists))
-    (λ e. either (bool (bad_cue n k lists cue)) (λ f. rw (e, f)) (λ f. absurd (m (rw (e, f)))))
-    (λ e. rw e)
 
 -- a refused query gives zeros: for its value stands what stands for none
 pub answer_none : {A : Type 0} (none : A) (answer : Answer A) → (answer_number answer ≡ 0 → ⊥) → answer_value none answer ≡ none

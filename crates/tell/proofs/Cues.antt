@@ -6,23 +6,15 @@ use native.Mathlib.Omega.{arith}
 use native.Mathlib.Numerals.{add-one}
 use borrow.Author.Tests.{eq-eqb, ne_eqb}
 use lib.ListN.{length}
-use Rattle.laws.proofs.Cases.{either, bool}
 use Rattle.std.proofs.lemmas.List.{nil_from_length}
-use Rattle.model.specs.Cues.{Listed, lists_fit, bad_cue, add_cue}
+use Rattle.model.specs.Cues.{Listed, add_cue}
 use Rattle.model.specs.Night.{pieces}
 use Rattle.model.specs.Refusal.{number_of}
 use Rattle.model.specs.declared.Refusal.{Refusal}
 use Rattle.model.specs.Sheet.{Loaded, load_cues}
+use Rattle.cues.proofs.Lists.{lists_stay}
 use Rattle.tell.proofs.Chunks.{Chunk, pieces_next, one_more}
 use Rattle.model.proofs.Refusals.{not_zero}
-
--- a refused record leaves the lists
-stays : (n k : ℕ) (lists cue : List ℕ) → ((add_cue n k lists cue).number ≡ 0 → ⊥) → (add_cue n k lists cue).lists ≡ lists
-unfolding add_cue
-stays n k lists cue d =
-    either (bool (lists_fit n k lists))
-    (λ e. either (bool (bad_cue n k lists cue)) (λ f. rw (e, f)) (λ f. absurd (d (rw (e, f)))))
-    (λ e. rw e)
 
 module _ (n k : ℕ) where
   -- some records added, and the bytes of those that are left to add
@@ -57,4 +49,4 @@ module _ (n k : ℕ) where
       unfolding load_cues
       adding_bad refusal d =
           let e : (add_cue n k lists cue).number ≡ number_of refusal = sym (ap (λ (x : Listed). x.number) f) ∙ d in
-          rw (ap (λ (x : Listed). x.lists) f, stays n k lists cue (λ z. not_zero refusal (sym e ∙ z)), ← e) (rw (ne_eqb _ 0 (λ z. not_zero refusal (sym e ∙ z))) at left_next)
+          rw (ap (λ (x : Listed). x.lists) f, lists_stay n k lists cue (λ z. not_zero refusal (sym e ∙ z)), ← e) (rw (ne_eqb _ 0 (λ z. not_zero refusal (sym e ∙ z))) at left_next)
