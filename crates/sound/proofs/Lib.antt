@@ -1,3 +1,3 @@
-pub mod Extent
+pub mod Sizes
 pub mod Clock
 pub mod Zeros

@@ -23,7 +23,7 @@ fn sound_record(size: Size, cells: &[u8], section: Section, i: usize) -> bool
 }
 
 // One of the "three sections (offers, first cells, second cells) of 8-byte records".
-#[tactic(auto, using(crate::proofs::Extent::small, crate::proofs::Extent::section_inside))]
+#[tactic(auto, using(crate::proofs::Sizes::small, crate::proofs::Sizes::section_inside))]
 fn sound_section(size: Size, cells: &[u8], section: Section) -> bool
     requires { (size_fits size ≡ true) × (length cells.now ≡ cells_length size) }
     ensures { result ≡ sound_section size (cells_of cells.now) (section_of section) }

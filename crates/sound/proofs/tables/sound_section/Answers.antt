@@ -9,7 +9,7 @@ use Rattle.model.specs.InUse.{cells_of}
 use Rattle.model.specs.Table.{section_of}
 use Rattle.model.specs.Sound.{sound_record, sound_section}
 use Rattle.laws.proofs.Each.{all_from}
-use Rattle.sound.proofs.Extent.{small, section_inside}
+use Rattle.sound.proofs.Sizes.{small, section_inside}
 use Rattle.sound.proofs.tables.sound_section.Goals as goal
 
 pub all-requires-clause-callable : goal.all-requires-clause-callable
