@@ -4,13 +4,15 @@ use mathlib.Core.List.{List}
 use mathlib.Core.Bool.{Bool, true, false, not, ◌&&◌, ◌||◌}
 use Prim.Native.Nat.{ℕ, ◌+◌, ◌*◌, ◌≤◌, ◌<◌}
 use native.Mathlib.Omega.{arith}
+use native.Mathlib.Nat.{add-zero}
 use borrow.Author.Tests.{leb-true, leb-false, eqb-true, not-false}
 use lib.Dec.{eqb, leb}
 use lib.ListN.{length, get_or}
+use lib.Seq.{get_or-drop}
 use Rattle.laws.proofs.Cases.{either, bool, and_true, or_false}
 use Rattle.laws.proofs.Index.{cell_below, product_le}
 use Rattle.model.specs.Size.{within}
-use Rattle.model.specs.Cues.{list_most, lists_length, lists_fit, list_start, list_length, bad_cue, add_cue}
+use Rattle.model.specs.Cues.{list_most, lists_length, lists_fit, list_start, list_length, code_at, bad_cue, add_cue}
 use Rattle.cues.specs.Adding.{out_of_range, Placed}
 
 -- a last test taken apart from those before it
@@ -68,3 +70,8 @@ lists_stay n k lists cue m =
     either (bool (lists_fit n k lists))
     (λ e. either (bool (bad_cue n k lists cue)) (λ f. rw (e, f)) (λ f. absurd (m (rw (e, f)))))
     (λ e. rw e)
+
+-- a code by its bytes in the lists
+pub code_bytes : (lists : List ℕ) (i : ℕ) → code_at lists i ≡ get_or lists (2 * i) 0 + 256 * get_or lists (2 * i + 1) 0
+unfolding code_at
+code_bytes lists i = simp (get_or-drop, add-zero)

@@ -3,7 +3,9 @@
 #![tactic(auto)]
 
 ghost use Rattle.std.specs.Prelude.{◌≡◌, ◌≢◌, Some, Ok, IsNone, IsOk, IsErr, IfOk, MatchResult};
+ghost use Rattle.std.specs.Result.{IfErr};
 ghost use Rattle.std.specs.IoError.{error_kind};
+ghost use Rattle.files.specs.Counts.{IsPrefixLen};
 ghost use Rattle.files.specs.Got.{Filled, ReadsOn, left};
 
 use std::io::{Cursor, ErrorKind, Read, Write};
@@ -13,6 +15,19 @@ use std::{fs, io};
 // A failure that has been told on standard error.
 #[derive(Clone, Copy, Debug, PartialEq, Eq)]
 pub struct Told;
+
+// A read that failed, which has been told, and how many bytes came before.
+#[derive(Clone, Copy, Debug, PartialEq, Eq)]
+pub struct Unread {
+    pub told: Told,
+    pub count: usize,
+}
+
+impl From<Unread> for Told {
+    fn from(unread: Unread) -> Told {
+        unread.told
+    }
+}
 
 // What reading gave: how many bytes, and whether the file has ended; if not, the buffer is full and there may be more.
 #[derive(Clone, Copy, Debug, PartialEq, Eq)]
@@ -62,8 +77,9 @@ fn read_full<F: Read>(
     file: &mut F,
     path: &str,
     buf: &mut [u8],
-) -> Result<Got, Told>
+) -> Result<Got, Unread>
     ensures filled { IfOk result (λ got. Filled got buf.new) }
+    ensures failed { IfErr result (λ unread. IsPrefixLen unread.count buf.new) }
     ensures reads { IfOk result (λ got. ReadsOn (F.remaining file.old) (F.remaining file.new) got buf.new) }
 {
     let mut count = 0;
@@ -71,7 +87,10 @@ fn read_full<F: Read>(
         match file.read(&mut buf[count..]) {
             Ok(0) => return Ok(Got { count, ended: true }),
             Ok(n) => count += n,
-            Err(why) => return Err(tell(rt, path, why)),
+            Err(why) => return Err(Unread {
+                told: tell(rt, path, why),
+                count,
+            }),
         }
     }
     Ok(Got {
@@ -86,8 +105,9 @@ pub fn read_part<F: Read>(
     file: &mut Option<F>,
     path: &str,
     buf: &mut [u8],
-) -> Result<Got, Told>
+) -> Result<Got, Unread>
     ensures filled { IfOk result (λ got. Filled got buf.new) }
+    ensures failed { IfErr result (λ unread. IsPrefixLen unread.count buf.new) }
     ensures missing { IsNone file.old → IsOk result }
     ensures reads { IfOk result (λ got. ReadsOn (left F.remaining file.old) (left F.remaining file.new) got buf.new) }
 {
@@ -106,10 +126,14 @@ pub fn close<F: Drop>(file: Option<F>) {
 }
 
 // The first bytes of a file, at most as many as there is room for.
-pub fn load(rt: &(impl Files + Eprint), path: &str, buf: &mut [u8]) -> Result<Got, Told>
-    ensures { IfOk result (λ got. Filled got buf.new) }
+pub fn load(rt: &(impl Files + Eprint), path: &str, buf: &mut [u8]) -> Result<Got, Unread>
+    ensures filled { IfOk result (λ got. Filled got buf.new) }
+    ensures failed { IfErr result (λ unread. IsPrefixLen unread.count buf.new) }
 {
-    let mut file = open(rt, path)?;
+    let mut file = match open(rt, path) {
+        Ok(file) => file,
+        Err(told) => return Err(Unread { told, count: 0 }),
+    };
     let got = read_part(rt, &mut file, path, buf);
     close(file);
     got

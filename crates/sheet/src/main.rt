@@ -3,6 +3,7 @@
 #![tactic(auto)]
 
 ghost use Rattle.std.specs.Prelude.{◌≡◌, true, ◌*◌, ◌≤◌, IfOk, length};
+ghost use Rattle.std.specs.Result.{OnErr};
 ghost use Rattle.model.specs.InUse.{tables_of, card_of};
 ghost use Rattle.model.specs.Size.{size_fits};
 ghost use Rattle.model.specs.Cues.{lists_fit};
@@ -68,7 +69,7 @@ fn play_some(
     logs: &mut [u8],
     decisions: &mut [u8],
     night: &mut Night,
-    page: &mut Page<OUT>,
+    out: &mut [u8; OUT],
 ) -> Result<bool, Told>
     requires { PartReady size (card_of cells.old logs.old decisions.old night.old.racks) night.old.read night.old.taken }
     ensures { PartDone size (card_of cells.new logs.new decisions.new night.new.racks) night.old.read night.new.read night.new.taken }
@@ -76,7 +77,6 @@ fn play_some(
     let mut buf = [0; PART];
     let got = files::read_part(rt, file, "turns.rec", &mut buf)?;
     let part = &buf[..got.count];
-    page.clear();
     let told = tell::tell_turns(
         size,
         cells,
@@ -85,14 +85,14 @@ fn play_some(
         night.racks,
         part,
         night.read,
-        page,
+        out,
     );
     // the prover follows an array into a field from a variable only
     let racks = told.racks;
     night.racks = racks;
     night.read += tell::records_in(part);
     night.taken += told.taken;
-    files::print(rt, page.text())?;
+    files::print(rt, &out[..told.place])?;
     Ok(got.ended)
 }
 
@@ -104,23 +104,18 @@ fn play_all(
     cells: &mut [u8],
     logs: &mut [u8],
     decisions: &mut [u8],
-    racks: [Rack; 8],
-    page: &mut Page<OUT>,
-) -> Result<Night, Told>
-    requires { PartReady size (card_of cells.old logs.old decisions.old racks) 0 0 }
-    ensures { IfOk result (λ night. Played size (card_of cells.new logs.new decisions.new night.racks) night.read night.taken) }
+    night: &mut Night,
+    out: &mut [u8; OUT],
+) -> Result<(), Told>
+    requires { (night.old.read ≡ 0) × PartReady size (card_of cells.old logs.old decisions.old night.old.racks) night.old.read night.old.taken }
+    ensures { Played size (card_of cells.new logs.new decisions.new night.new.racks) night.new.read night.new.taken }
 {
-    let mut night = Night {
-        racks,
-        read: 0,
-        taken: 0,
-    };
     for _ in 0..PARTS {
-        if play_some(rt, file, size, cells, logs, decisions, &mut night, page)? {
+        if play_some(rt, file, size, cells, logs, decisions, night, out)? {
             break;
         }
     }
-    Ok(night)
+    Ok(())
 }
 
 // The logs of one rack.
@@ -131,14 +126,13 @@ fn print_rack(
     lists: &[u8],
     rack: usize,
     finished: usize,
-    page: &mut Page<OUT>,
+    out: &mut [u8; OUT],
 ) -> Result<(), Told>
     requires { RackReady size logs.now lists.now rack }
 {
     for lane in 0..size.lanes {
-        page.clear();
-        tell::tell_log(size, logs, lists, rack, lane, finished, page);
-        files::print(rt, page.text())?;
+        let place = tell::tell_log(size, logs, lists, rack, lane, finished, out);
+        files::print(rt, &out[..place])?;
     }
     Ok(())
 }
@@ -150,13 +144,13 @@ fn print_racks(
     logs: &[u8],
     lists: &[u8],
     racks: [Rack; 8],
-    page: &mut Page<OUT>,
+    out: &mut [u8; OUT],
 ) -> Result<(), Told>
     requires { LogsReady size logs.now lists.now racks }
 {
     for rack in 0..size.racks {
         let finished = usize::from(racks[rack].round) - 1;
-        print_rack(rt, size, logs, lists, rack, finished, page)?;
+        print_rack(rt, size, logs, lists, rack, finished, out)?;
     }
     Ok(())
 }
@@ -177,14 +171,14 @@ fn print_played(
     logs: &[u8],
     lists: &[u8],
     night: Night,
-    page: &mut Page<OUT>,
+    out: &mut [u8; OUT],
 ) -> Result<(), Told>
     requires { (night.taken ≤ night.read) × LogsReady size logs.now lists.now night.racks }
 {
-    page.clear();
+    let mut page = Page::<LINE>::new();
     page.turns_line(night.read, night.taken, night.read - night.taken);
     files::print(rt, page.text())?;
-    print_racks(rt, size, logs, lists, night.racks, page)
+    print_racks(rt, size, logs, lists, night.racks, out)
 }
 
 // The night played and told, behind the size line.
@@ -202,9 +196,14 @@ fn print_night(
     let Ok(racks) = fresh::fresh(size, cells, logs, decisions) else {
         unreachable!();
     };
-    let mut page = Page::new();
-    let night = play_all(rt, file, size, cells, logs, decisions, racks, &mut page)?;
-    print_played(rt, size, logs, lists, night, &mut page)
+    let mut night = Night {
+        racks,
+        read: 0,
+        taken: 0,
+    };
+    let mut out = [0; OUT];
+    play_all(rt, file, size, cells, logs, decisions, &mut night, &mut out)?;
+    print_played(rt, size, logs, lists, night, &mut out)
 }
 
 // The tables of a size, on the stack.
@@ -248,7 +247,8 @@ fn load_cues(
     size: Size,
     lists: &mut [u8],
 ) -> Result<Result<u64, BadCue>, Told>
-    ensures { IfOk result (λ cues. CuesOf size.racks size.lanes lists.old (loaded cues lists.new)) }
+    ensures listed { IfOk result (λ cues. CuesOf size.racks size.lanes lists.old (loaded cues lists.new)) }
+    ensures failed { OnErr result (lists.new ≡ lists.old) }
 {
     let mut room = [0; CUES];
     let got = files::load(rt, "cues.rec", &mut room)?;

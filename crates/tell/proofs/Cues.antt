@@ -1,52 +1,67 @@
 -- Cue records added one after the other, to the first bad one.
-use mathlib.Core.Path.{◌≡◌, sym, ap, ◌∙◌}
+use mathlib.Core.Path.{◌≡◌, refl, sym, ap, ◌∙◌}
 use mathlib.Core.List.{List, ◌∷◌}
-use Prim.Native.Nat.{ℕ, ◌+◌}
+use Prim.Native.Nat.{ℕ, ◌+◌, ◌-◌, ◌≤◌, ◌<◌}
 use native.Mathlib.Omega.{arith}
 use native.Mathlib.Numerals.{add-one}
 use borrow.Author.Tests.{eq-eqb, ne_eqb}
-use lib.ListN.{length}
-use Rattle.std.proofs.lemmas.List.{nil_from_length}
-use Rattle.model.specs.Cues.{Listed, add_cue}
-use Rattle.model.specs.Night.{pieces}
-use Rattle.model.specs.Refusal.{number_of}
-use Rattle.model.specs.declared.Refusal.{Refusal}
+use lib.ListN.{length, take, drop}
+use lib.Seq.{length-sets}
+use Rattle.laws.proofs.Cases.{either, bool}
+use Rattle.model.specs.Cues.{Listed, lists_fit, bad_cue, listed, add_cue}
+use Rattle.model.specs.Night.{piece_at, pieces}
 use Rattle.model.specs.Sheet.{Loaded, load_cues}
 use Rattle.cues.proofs.Lists.{lists_stay}
-use Rattle.tell.proofs.Chunks.{Chunk, pieces_next, one_more}
-use Rattle.model.proofs.Refusals.{not_zero}
+use Rattle.turns.specs.Walk.{place_behind}
+use Rattle.turns.proofs.Pieces.{pieces_none}
+use Rattle.turns.proofs.Ends.{end_at, pieces_next}
+
+-- a record added or refused leaves the lists' length
+pub lists_length_stays : (n k : ℕ) (lists cue : List ℕ) → length (add_cue n k lists cue).lists ≡ length lists
+unfolding add_cue listed
+lists_length_stays n k lists cue =
+    either (bool (lists_fit n k lists))
+    (λ e. either (bool (bad_cue n k lists cue)) (λ f. rw (e, f)) (λ f. rw (e, f) (simp length-sets)))
+    (λ e. rw e)
 
 module _ (n k : ℕ) where
-  -- some records added, and the bytes of those that are left to add
-  pub record Adding (bytes before lists : List ℕ) (index : ℕ) (rest : List ℕ) : Type 0 where
-    pub count : index + length (pieces rest) ≡ length (pieces bytes)
-    pub left : load_cues n k lists index (pieces rest) ≡ load_cues n k before 0 (pieces bytes)
+  -- the records before a place added, and those from there on to add
+  pub record Adding (bytes lists₀ lists : List ℕ) (index at : ℕ) : Type 0 where
+    pub same : length lists ≡ length lists₀
+    pub few : index ≤ at
+    pub left : load_cues n k lists index (pieces (drop at bytes)) ≡ load_cues n k lists₀ 0 (pieces bytes)
 
-  module _ (bytes before lists : List ℕ) (index : ℕ) (rest : List ℕ) (g : Adding bytes before lists index rest) where
-    pub adding_last : length (pieces rest) ≡ 0 → (all : ℕ) → all ≡ length (pieces bytes)
-        → ◌≡◌ {A = Loaded} (record { number = 0; index = all; lists = lists }) (load_cues n k before 0 (pieces bytes))
+  pub adding_first : (bytes lists₀ : List ℕ) → Adding bytes lists₀ lists₀ 0 0
+  adding_first bytes lists₀ = record { same = refl; few = omega arith; left = refl }
+
+  module _ (bytes lists₀ lists : List ℕ) (index at : ℕ) (g : Adding bytes lists₀ lists index at) where
+    pub adding_last : length bytes ≤ at → ◌≡◌ {A = Loaded} (record { number = 0; index = index; lists = lists }) (load_cues n k lists₀ 0 (pieces bytes))
     unfolding load_cues
-    adding_last h all e =
-        let here : all ≡ index = omega (arith, g.count, h, e) in
-        rw here (rw (nil_from_length (pieces rest) h) at g.left)
+    adding_last h = rw (pieces_none bytes at h) at g.left
 
-    module _ (cue behind : List ℕ) (c : Chunk rest cue behind) (number : ℕ) (after : List ℕ)
-        (f : ◌≡◌ {A = Listed} (record { number = number; lists = after }) (add_cue n k lists cue)) where
+    module _ (end : ℕ) (h : at < length bytes) (e : end ≡ place_behind at (piece_at bytes at)) (a : Listed)
+        (f : a ≡ add_cue n k lists (take (end - at) (drop at bytes))) where
+      pub adding_same : length a.lists ≡ length lists₀
+      adding_same = rw f (lists_length_stays n k lists (take (end - at) (drop at bytes)) ∙ g.same)
+
       -- what is left, by its first record
-      left_next : load_cues n k lists index (cue ∷ pieces behind) ≡ load_cues n k before 0 (pieces bytes)
-      left_next = rw (pieces_next rest cue behind c) at g.left
+      left_next : load_cues n k lists index (take (end - at) (drop at bytes) ∷ pieces (drop end bytes)) ≡ load_cues n k lists₀ 0 (pieces bytes)
+      left_next = rw (pieces_next bytes at end h e) at g.left
 
-      pub adding_next : number ≡ 0 → (next : ℕ) → next ≡ index + 1 → Adding bytes before after next behind
+      pub adding_next : a.number ≡ 0 → Adding bytes lists₀ a.lists (index + 1) end
       unfolding load_cues
-      adding_next z next q =
+      adding_next z =
           record {
-            count = omega (arith, g.count, one_more rest cue behind c, q);
-            left = rw (q, add-one, ap (λ (x : Listed). x.lists) f) (rw (eq-eqb _ 0 (sym (ap (λ (x : Listed). x.number) f) ∙ z)) at left_next);
+            same = adding_same;
+            few = omega (arith, g.few, (end_at bytes at end h e).later);
+            left = rw (add-one, f) (rw (eq-eqb _ 0 (sym (ap (λ (x : Listed). x.number) f) ∙ z)) at left_next);
           }
 
-      pub adding_bad : (refusal : Refusal) → number ≡ number_of refusal
-          → ◌≡◌ {A = Loaded} (record { number = number_of refusal; index = index; lists = after }) (load_cues n k before 0 (pieces bytes))
+      pub adding_bad : (a.number ≡ 0 → ⊥)
+          → ◌≡◌ {A = Loaded} (record { number = a.number; index = index; lists = a.lists }) (load_cues n k lists₀ 0 (pieces bytes))
       unfolding load_cues
-      adding_bad refusal d =
-          let e : (add_cue n k lists cue).number ≡ number_of refusal = sym (ap (λ (x : Listed). x.number) f) ∙ d in
-          rw (ap (λ (x : Listed). x.lists) f, lists_stay n k lists cue (λ z. not_zero refusal (sym e ∙ z)), ← e) (rw (ne_eqb _ 0 (λ z. not_zero refusal (sym e ∙ z))) at left_next)
+      adding_bad d =
+          let cue = take (end - at) (drop at bytes) in
+          let number = ap (λ (x : Listed). x.number) f in
+          let refused : (add_cue n k lists cue).number ≡ 0 → ⊥ = λ z. d (number ∙ z) in
+          rw (f, lists_stay n k lists cue refused) (rw (ne_eqb _ 0 refused) at left_next)

@@ -1,4 +1,3 @@
-pub mod Chunks
 pub mod Logs
 pub mod Cues
 pub mod Turns

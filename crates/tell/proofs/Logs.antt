@@ -1,27 +1,31 @@
 -- The lines of a log one behind the other, and that they are the sheet's.
-use mathlib.Core.Path.{◌≡◌, refl, sym}
-use mathlib.Core.List.{List, ◌++◌, append_assoc, append-nil}
-use Prim.Native.Nat.{ℕ, zero, suc, ◌+◌, ◌*◌, ◌-◌, ◌≤◌}
+use mathlib.Core.Path.{◌≡◌, refl, ◌∙◌}
+use mathlib.Core.List.{List, ◌++◌}
+use Prim.Native.Nat.{ℕ, zero, suc, ◌+◌, ◌*◌, ◌-◌, ◌≤◌, ◌<◌, ◌^◌}
 use native.Mathlib.Omega.{arith}
+use native.Mathlib.Nat.{add-zero}
 use native.Mathlib.Numerals.{add-one}
-use borrow.Author.Tests.{ltb-true}
-use lib.Dec.{ltb}
-use lib.ListN.{length}
+use borrow.Author.Tests.{ltb-true, leb-true}
+use lib.Dec.{ltb, leb}
+use lib.ListN.{length, get_or, length-append}
 use Rattle.model.specs.InUse.{logs_of}
-use Rattle.laws.proofs.Cases.{and_true}
+use Rattle.laws.proofs.Cases.{either, bool, and_true}
 use Rattle.model.specs.declared.Size.{Size}
 use Rattle.model.specs.declared.Cue.{Cue}
 use Rattle.model.specs.Size.{within}
 use Rattle.model.specs.Record.{entry_at, Logs}
 use Rattle.model.specs.Table.{Card, length_from, log_start, log_length, rack_at}
 use Rattle.model.specs.Sound.{sound_cue}
-use Rattle.model.specs.Cues.{code_in}
+use Rattle.model.specs.Cues.{list_start, list_length, code_in}
 use Rattle.model.specs.Sheet.{log_line, entry_line, line_at, entry_lines, log_lines}
 use Rattle.model.proofs.Sizes.{sizes}
 use Rattle.model.proofs.Length.{length_most}
 use Rattle.model.proofs.Start.{log_fits}
-use Rattle.cues.proofs.Lists.{list_within}
+use Rattle.cues.proofs.Lists.{list_within, code_bytes}
 use Rattle.steady.proofs.Logs.{logs_facts}
+use Rattle.text.specs.Written.{Written, write}
+use Rattle.text.proofs.Written.{behind, moved}
+use Rattle.text.proofs.Lines.{log_most, entry_most}
 use Rattle.tell.specs.Log.{entry_text, entries_text, log_text, EntriesReady, LogReady}
 
 -- an entry's line by its cue and code
@@ -31,33 +35,36 @@ pub entry_text_is : (k : ℕ) (lists : List ℕ) (logs : Logs) (start lane i : �
 unfolding entry_text
 entry_text_is k lists logs start lane i c issuer number code e p q f = rw (f, p, q, e)
 
--- the first i entries told behind a text
-pub record EntriesTo (k : ℕ) (lists : List ℕ) (logs : Logs) (start lane : ℕ) (before : List ℕ) (i : ℕ) (after : List ℕ) : Type 0 where
-  pub near : length after ≤ length before + 128 * i
-  pub text : after ≡ before ++ entries_text k lists logs start lane i
+-- the first i entries written from a place on
+pub record EntriesTo (k : ℕ) (lists : List ℕ) (logs : Logs) (start lane at : ℕ) (before : List ℕ) (i : ℕ) (w : Written) : Type 0 where
+  pub same : length w.bytes ≡ length before
+  pub near : w.place ≤ at + 128 * i
+  pub text : w ≡ write before at (entries_text k lists logs start lane i)
 
-module _ (k : ℕ) (lists : List ℕ) (logs : Logs) (start lane : ℕ) (before : List ℕ) where
-  pub entries_none : EntriesTo k lists logs start lane before 0 before
-  unfolding entries_text
-  entries_none = record { near = omega arith; text = sym (append-nil before) }
+module _ (k : ℕ) (lists : List ℕ) (logs : Logs) (start lane at : ℕ) (before : List ℕ) where
+  pub entries_none : EntriesTo k lists logs start lane at before 0 (record { bytes = before; place = at })
+  unfolding write entries_text
+  entries_none = record { same = refl; near = omega arith; text = rw add-zero }
 
-  pub entries_next : (i : ℕ) (now after line : List ℕ) → EntriesTo k lists logs start lane before i now
-      → after ≡ now ++ line → line ≡ entry_text k lists logs start lane i → length after ≤ length now + 128
-      → EntriesTo k lists logs start lane before (i + 1) after
+  pub entries_next : (i : ℕ) (v w : Written) (line : List ℕ) → EntriesTo k lists logs start lane at before i v
+      → w ≡ write v.bytes v.place line → line ≡ entry_text k lists logs start lane i → length line ≤ 128
+      → EntriesTo k lists logs start lane at before (i + 1) w
   unfolding entries_text
-  entries_next i now after line h e f short =
+  entries_next i v w line h e f short =
+      let m = moved v.bytes v.place line e short in
       record {
-        near = omega (arith, h.near);
-        text = rw (add-one, ← f, e, h.text) (append_assoc before (entries_text k lists logs start lane i) line);
+        same = m.same ∙ h.same;
+        near = omega (arith, m.near, h.near);
+        text = rw (add-one, ← f) (behind before at (entries_text k lists logs start lane i) line h.text e);
       }
 
 module _ (s : Size) (logs lists : List ℕ) (rack lane start count : ℕ) (e : start ≡ log_start s rack lane)
     (f : count ≡ length_from (logs_of logs) start s.rounds) where
   -- a log that is there lies within its table, and so do the lists of its cues
-  pub ready_entries : (most : ℕ) (text told : List ℕ) → LogReady s logs lists rack lane most text
-      → length told ≤ length text + 128 → EntriesReady s.lanes logs lists start lane count most told
+  pub ready_entries : {out : List ℕ} (at : ℕ) (told : List ℕ) → LogReady s logs lists rack lane out
+      → length told ≡ length out → at ≤ 128 → EntriesReady s.lanes logs lists start lane count at told
   unfolding sound_cue
-  ready_entries most text told r h =
+  ready_entries at told r same h =
       let inside = log_fits s rack lane r.fit r.rack_there r.lane_there in
       let most = length_most (logs_of logs) start s.rounds in
       let facts = rw (← e, ← f) at (logs_facts s (logs_of logs) r.ok rack lane r.rack_there r.lane_there) in
@@ -70,10 +77,59 @@ module _ (s : Size) (logs lists : List ℕ) (rack lane start count : ℕ) (e : s
         room = omega (arith, (sizes s r.fit).rounds_high, r.room);
       }
 
-  pub log_text_is : (finished : ℕ) (text told after : List ℕ) → told ≡ text ++ log_line rack lane finished count
-      → after ≡ told ++ entries_text s.lanes lists (logs_of logs) start lane count → after ≡ text ++ log_text s lists (logs_of logs) rack lane finished
+  pub log_text_is : (finished : ℕ) → log_line rack lane finished count ++ entries_text s.lanes lists (logs_of logs) start lane count
+      ≡ log_text s lists (logs_of logs) rack lane finished
   unfolding log_text
-  log_text_is finished text told after g h = rw (h, g, f, e) (append_assoc text _ _)
+  log_text_is finished = rw (f, e)
+
+-- a code of two bytes is small
+code_small : (k : ℕ) (lists : List ℕ) (rack lane number : ℕ) → ((i : ℕ) → get_or lists i 0 < 256) → code_in k lists rack lane number < 2 ^ 64
+unfolding code_in
+code_small k lists rack lane zero bytes = omega arith
+code_small k lists rack lane (suc i) bytes =
+    let at = list_start k rack lane + i in
+    either (bool (ltb i (list_length k lists rack lane)))
+    (λ e. rw (e, code_bytes lists at) (omega (arith, bytes (2 * at), bytes (2 * at + 1))))
+    (λ e. rw e (omega arith))
+
+module _ (s : Size) (logs lists : List ℕ) (rack lane : ℕ) {out : List ℕ} (r : LogReady s logs lists rack lane out)
+    (bytes : (i : ℕ) → get_or lists i 0 < 256) where
+  -- each entry is at most a line
+  entry_short : (i : ℕ) → i < log_length s (logs_of logs) rack lane → length (entry_text s.lanes lists (logs_of logs) (log_start s rack lane) lane i) ≤ 128
+  unfolding entry_text sound_cue
+  entry_short i h =
+      let c = entry_at (logs_of logs) (log_start s rack lane + i) in
+      let z = sizes s r.fit in
+      let facts = logs_facts s (logs_of logs) r.ok rack lane r.rack_there r.lane_there in
+      let most = length_most (logs_of logs) (log_start s rack lane) s.rounds in
+      let t = and_true (ltb c.issuer s.racks) (within 1 (s.rounds + 1) c.number) (facts.used i h) in
+      let issuer = ltb-true c.issuer s.racks t.0 in
+      let number = leb-true c.number (s.rounds + 1) (and_true (leb 1 c.number) (leb c.number (s.rounds + 1)) t.1).1 in
+      entry_most i c.issuer c.number _
+      (omega (arith, z.rounds_high)) (omega (arith, z.racks_high)) (omega (arith, z.rounds_high))
+      (code_small s.lanes lists c.issuer lane c.number bytes)
+
+  entries_short : (i : ℕ) → i ≤ log_length s (logs_of logs) rack lane
+      → length (entries_text s.lanes lists (logs_of logs) (log_start s rack lane) lane i) ≤ 128 * i
+  unfolding entries_text
+  entries_short zero h = omega arith
+  entries_short (suc i) h = rw length-append (omega (arith, entries_short i (omega arith), entry_short i h))
+
+  -- so a log's text is at most 65 lines
+  pub log_short : (finished : ℕ) → finished < 2 ^ 64 → length (log_text s lists (logs_of logs) rack lane finished) ≤ 8320
+  unfolding log_text
+  log_short finished h =
+      let L = log_length s (logs_of logs) rack lane in
+      let z = sizes s r.fit in
+      let most = length_most (logs_of logs) (log_start s rack lane) s.rounds in
+      rw length-append
+      (omega (
+        arith,
+        z.rounds_high,
+        entries_short L (omega arith),
+        log_most rack lane finished L (omega (arith, r.rack_there, z.racks_high)) (omega (arith, r.lane_there, z.lanes_high)) h
+            (omega (arith, z.rounds_high)),
+      ))
 
 -- the text of a log of a card is the sheet's
 module _ (s : Size) (lists : List ℕ) (card : Card) (rack lane : ℕ) where

@@ -1,18 +1,20 @@
--- Parts of turns.rec played and told one behind the other are the text of the night.
+-- Parts of turns.rec played and told one behind the other are the text of the night; and what a buffer holds before its place is what was written.
 use mathlib.Core.Path.{◌≡◌, refl, sym, ◌∙◌}
 use mathlib.Core.List.{List, [], ◌∷◌, ◌++◌, append_assoc, append-nil}
 use mathlib.Core.Bool.{cond}
-use Prim.Native.Nat.{ℕ, zero, suc, ◌+◌, ◌*◌}
+use Prim.Native.Nat.{ℕ, zero, suc, ◌+◌, ◌*◌, ◌≤◌}
 use native.Mathlib.Omega.{arith}
 use native.Mathlib.Nat.{zero-add, add-zero}
 use lib.Dec.{eqb}
-use lib.ListN.{length, length-append}
+use lib.ListN.{length, take, length-append}
+use lib.Seq.{sets-eq, take-append_seam}
 use Rattle.model.specs.declared.Size.{Size}
 use Rattle.model.specs.Table.{Card}
 use Rattle.model.specs.Fresh.{fresh_card}
 use Rattle.model.specs.Turn.{turned}
 use Rattle.model.specs.Night.{after, replies, pieces}
 use Rattle.model.specs.Sheet.{refused_line, refused_lines, taken_in, night_text}
+use Rattle.text.specs.Written.{Written, write}
 use Rattle.tell.specs.Parts.{Playing, play_part, play_parts, parts_text, joined, Whole}
 
 -- the records of bytes that are whole records, and of those behind them
@@ -93,3 +95,9 @@ module _ (s : Size) where
   parts_text_is records lists parts h =
       let turns = pieces (joined parts) in
       rw (parts_played records parts (record { card = fresh_card s; read = 0; taken = 0; text = [] }) h, length_replies s (fresh_card s) turns, zero-add (length turns), zero-add (taken_in (replies s (fresh_card s) turns)))
+
+-- what stands before the place is the text
+pub printed : (out text : List ℕ) (w : Written) → w ≡ write out 0 text → length text ≤ length out → take w.place w.bytes ≡ text
+unfolding write
+printed out text w e h =
+    rw (e, sets-eq text out 0 (omega arith), zero-add (length text)) (take-append_seam text _)

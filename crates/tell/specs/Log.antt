@@ -27,18 +27,18 @@ log_text s lists logs rack lane finished =
     let L = log_length s logs rack lane in
     log_line rack lane finished L ++ entries_text s.lanes lists logs (log_start s rack lane) lane L
 
--- what writing the first entries requires: they are there, their cues' lists are there, and there is room on the page for a line of each
-pub record EntriesReady (k : ℕ) (logs lists : List ℕ) (start lane count most : ℕ) (text : List ℕ) : Type 0 where
+-- what writing the first entries requires: they are there, their cues' lists are there, and there is room for a line of each
+pub record EntriesReady (k : ℕ) (logs lists : List ℕ) (start lane count at : ℕ) (out : List ℕ) : Type 0 where
   pub inside : entry_form.width * (start + count) ≤ length logs
   pub listed : (i : ℕ) → i < count → 2 * (list_start k (entry_at (logs_of logs) (start + i)).issuer lane + list_most) ≤ length lists
-  pub room : length text + 128 * count ≤ most
+  pub room : at + 128 * count ≤ length out
 
--- what writing a log requires: the tests of sizes, lengths and soundness, a log that is there, and room on the page for 65 lines
-pub record LogReady (s : Size) (logs lists : List ℕ) (rack lane most : ℕ) (text : List ℕ) : Type 0 where
+-- what writing a log requires: the tests of sizes, lengths and soundness, a log that is there, and room for 65 lines
+pub record LogReady (s : Size) (logs lists : List ℕ) (rack lane : ℕ) (out : List ℕ) : Type 0 where
   pub fit : size_fits s ≡ true
   pub exact : length logs ≡ logs_length s
   pub ok : sound_logs s (logs_of logs) ≡ true
   pub lists_fit_is : lists_fit s.racks s.lanes lists ≡ true
   pub rack_there : rack < s.racks
   pub lane_there : lane < s.lanes
-  pub room : length text + 8320 ≤ most
+  pub room : 8320 ≤ length out

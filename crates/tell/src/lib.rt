@@ -1,16 +1,16 @@
-// The sheet's work on lent tables and a page of lines: what `sheet` reads is judged, played and told here, and its functions only read, call and write.
+// The sheet's work on lent buffers: what `sheet` reads is judged, played and told here, and its functions only read, call and write.
 #![tactic(auto)]
 
-ghost use Rattle.std.specs.Prelude.{◌≡◌, ◌++◌, ◌≤◌, length};
+ghost use Rattle.std.specs.Prelude.{◌≡◌, ◌≤◌, length};
 ghost use Rattle.model.specs.InUse.{card_of, logs_of};
 ghost use Rattle.model.specs.Sheet.{size_of, size_given, load_cues};
 ghost use Rattle.model.specs.Night.{pieces};
+ghost use Rattle.text.specs.Written.{write};
 ghost use Rattle.tell.specs.Cues.{loaded};
 ghost use Rattle.tell.specs.Turns.{TurnsReady, tell_turns};
 ghost use Rattle.tell.specs.Log.{EntriesReady, LogReady, entries_text, log_text};
 
 use model::{Rack, Refusal, Size, logs};
-use text::Page;
 
 // A record is 4 bytes.
 const RECORD: usize = 4;
@@ -55,67 +55,76 @@ pub struct BadCue {
 pub fn tell_cues(racks: usize, lanes: usize, lists: &mut [u8], bytes: &[u8]) -> Result<u64, BadCue>
     ensures { loaded result lists.new ≡ load_cues racks lanes lists.old 0 (pieces bytes.now) }
 {
-    for (cue, index) in bytes.chunks(RECORD).zip(0..) {
-        if let Err(refusal) = cues::add_cue(racks, lanes, lists, cue) {
+    let mut index = 0;
+    let mut at = 0;
+    while at < bytes.len() {
+        let end = turns::place_behind(bytes, at);
+        if let Err(refusal) = cues::add_cue(racks, lanes, lists, &bytes[at..end]) {
             return Err(BadCue { refusal, index });
         }
+        index += 1;
+        at = end;
     }
-    Ok(records_in(bytes))
+    Ok(index)
 }
 
-// "under it each entry: place, issuer, number, code", for the first `count` entries of a log.
-#[tactic(auto, using(crate::proofs::Logs::entries_none, crate::proofs::Logs::entries_next, crate::proofs::Logs::entry_text_is))]
-fn tell_entries<const N: usize>(
+// "under it each entry: place, issuer, number, code", for the first `count` entries of a log, from the place `at` of the buffer on.
+fn tell_entries(
     lanes: usize,
     logs: &[u8],
     lists: &[u8],
     start: usize,
     lane: usize,
     count: usize,
-    page: &mut Page<N>,
-)
-    requires { EntriesReady lanes logs.now lists.now start lane count N page.old }
-    ensures { page.new ≡ page.old ++ entries_text lanes lists.now (logs_of logs.now) start lane count }
+    at: usize,
+    out: &mut [u8],
+) -> usize
+    requires { EntriesReady lanes logs.now lists.now start lane count at out.old }
+    ensures { record { bytes = out.new; place = result }
+        ≡ write out.old at (entries_text lanes lists.now (logs_of logs.now) start lane count) }
 {
+    let mut end = at;
     for place in 0..count {
         let cue = logs::entry(logs, start + place);
         let issuer = usize::from(cue.issuer);
         let number = usize::from(cue.number);
         let code = cues::code_in(lanes, lists, issuer, lane, number);
-        page.entry_line(place, cue.issuer, cue.number, code);
+        end = text::entry_line(out, end, place, cue.issuer, cue.number, code);
     }
+    end
 }
 
-// "then for each rack and lane `log`, rack, lane, `finished` rounds, `length`, and under it each entry": one log.
-#[tactic(auto, using(model::proofs::Start::log_fits, crate::proofs::Logs::log_text_is))]
-pub fn tell_log<const N: usize>(
+// "then for each rack and lane `log`, rack, lane, `finished` rounds, `length`, and under it each entry": one log, told from the buffer's start on.
+pub fn tell_log(
     size: Size,
     logs: &[u8],
     lists: &[u8],
     rack: usize,
     lane: usize,
     finished: usize,
-    page: &mut Page<N>,
-)
-    requires { LogReady size logs.now lists.now rack lane N page.old }
-    ensures { page.new ≡ page.old ++ log_text size lists.now (logs_of logs.now) rack lane finished }
+    out: &mut [u8],
+) -> usize
+    requires { LogReady size logs.now lists.now rack lane out.old }
+    ensures { record { bytes = out.new; place = result }
+        ≡ write out.old 0 (log_text size lists.now (logs_of logs.now) rack lane finished) }
 {
     let start = logs::log_start(size, rack, lane);
     let count = logs::length_from(logs, start, size.rounds);
-    page.log_line(rack, lane, finished, count);
-    tell_entries(size.lanes, logs, lists, start, lane, count, page);
+    let at = text::log_line(out, 0, rack, lane, finished, count);
+    tell_entries(size.lanes, logs, lists, start, lane, count, at, out)
 }
 
-// What telling turns hands back: the racks, and how many turns were taken.
+// What telling turns hands back: the racks, the place behind the lines written, and how many turns were taken.
 #[derive(Clone, Copy, Debug)]
 pub struct Told {
     pub racks: [Rack; 8],
+    pub place: usize,
     pub taken: u64,
 }
 
 // "for each refused turn `refused`, its index from 0, its number": plays a part of turns.rec, whose first record has the index given, and
-// writes the refused lines. Soundness is not tested between turns: a turn keeps it.
-pub fn tell_turns<const N: usize>(
+// writes the refused lines from the buffer's start on. Soundness is not tested between turns: a turn keeps it.
+pub fn tell_turns(
     size: Size,
     cells: &mut [u8],
     logs: &mut [u8],
@@ -123,22 +132,39 @@ pub fn tell_turns<const N: usize>(
     mut racks: [Rack; 8],
     bytes: &[u8],
     index: u64,
-    page: &mut Page<N>,
+    out: &mut [u8],
 ) -> Told
-    requires { TurnsReady size (card_of cells.old logs.old decisions.old racks) bytes.now index N page.old }
-    ensures { record { card = card_of cells.new logs.new decisions.new result.racks; text = page.new; taken = result.taken }
-        ≡ tell_turns size (card_of cells.old logs.old decisions.old racks) page.old index 0 (pieces bytes.now) }
+    requires { TurnsReady size (card_of cells.old logs.old decisions.old racks) bytes.now out.old index }
+    ensures { record {
+      card = card_of cells.new logs.new decisions.new result.racks;
+      text = record { bytes = out.new; place = result.place };
+      taken = result.taken;
+    }
+        ≡ tell_turns size (card_of cells.old logs.old decisions.old racks)
+        out.old 0 index 0 (pieces bytes.now) }
 {
+    let mut place = 0;
     let mut taken = 0;
-    for (turn, number) in bytes.chunks(RECORD).zip(index..) {
+    let mut number = index;
+    let mut at = 0;
+    while at < bytes.len() {
+        let next = turns::place_behind(bytes, at);
+        let turn = &bytes[at..next];
+        let told = number;
+        number += 1;
+        at = next;
         let rack = play::rack_named(size, turn);
         match play::play_rack(size, cells, logs, decisions, racks[rack], turn) {
             Ok(after) => {
                 racks[rack] = after;
                 taken += 1;
             }
-            Err(refusal) => page.refused_line(number, refusal.into()),
+            Err(refusal) => place = text::refused_line(out, place, told, refusal.into()),
         }
     }
-    Told { racks, taken }
+    Told {
+        racks,
+        place,
+        taken,
+    }
 }

@@ -1,5 +1,5 @@
 -- A number in decimal, by its front and its last digits, and how long it is.
-use mathlib.Core.Path.{◌≡◌, sym, ap, ◌∙◌}
+use mathlib.Core.Path.{◌≡◌, ap, ◌∙◌}
 use mathlib.Core.List.{List, [], ◌∷◌, ◌++◌, append_assoc}
 use Prim.Native.Nat.{ℕ, zero, suc, ◌+◌, ◌*◌, ◌/◌, ◌%◌, ◌^◌, ◌≤◌, ◌<◌}
 use native.Mathlib.Omega.{arith}
@@ -23,13 +23,17 @@ pub decimal_less : (n : ℕ) → n < 10 → decimal n ≡ (48 + n) ∷ []
 decimal_less n h = rw (lt-ltb n 10 h)
 
 -- a number from 10 on: the front, then the last digit
-decimal_more : (n : ℕ) → 10 ≤ n → decimal n ≡ decimal (n / 10) ++ ((48 + n % 10) ∷ [])
+pub decimal_more : (n : ℕ) → 10 ≤ n → decimal n ≡ decimal (n / 10) ++ ((48 + n % 10) ∷ [])
 decimal_more n h =
     let e : digits n (n / 10) ≡ decimal (n / 10) = digits_same n (suc (n / 10)) (n / 10) (omega arith) (omega arith) in
     rw (le-ltb n 10 h, e)
 
+-- a number from 10 to 99 is both its digits
+pub decimal_pair : (n : ℕ) → 10 ≤ n → n < 100 → decimal n ≡ two_digits n
+decimal_pair n h g = decimal_more n h ∙ ap (λ (front : List ℕ). front ++ ((48 + n % 10) ∷ [])) (decimal_less (n / 10) (omega arith))
+
 -- a number from 100 on: the front, then the last two digits
-decimal_hundred : (n : ℕ) → 100 ≤ n → decimal n ≡ decimal (n / 100) ++ two_digits (n % 100)
+pub decimal_hundred : (n : ℕ) → 100 ≤ n → decimal n ≡ decimal (n / 100) ++ two_digits (n % 100)
 decimal_hundred n h =
     let front : n / 10 / 10 ≡ n / 100 = omega arith in
     let tens : n / 10 % 10 ≡ n % 100 / 10 = omega arith in
@@ -38,15 +42,6 @@ decimal_hundred n h =
     ∙ ap (λ (x : List ℕ). x ++ ((48 + n % 10) ∷ [])) (decimal_more (n / 10) (omega arith))
     ∙ append_assoc (decimal (n / 10 / 10)) ((48 + n / 10 % 10) ∷ []) ((48 + n % 10) ∷ [])
     ∙ (λ i. decimal (front i) ++ ((48 + tens i) ∷ (48 + ones i) ∷ []))
-
--- behind a text: the front, then the last two digits
-pub decimal_behind : (n : ℕ) (text front after : List ℕ) → front ≡ text ++ decimal (n / 100) → after ≡ front ++ two_digits (n % 100) → 100 ≤ n
-    → after ≡ text ++ decimal n
-decimal_behind n text front after e f h =
-    f
-    ∙ ap (λ (x : List ℕ). x ++ two_digits (n % 100)) e
-    ∙ append_assoc text (decimal (n / 100)) (two_digits (n % 100))
-    ∙ ap (λ (x : List ℕ). text ++ x) (sym (decimal_hundred n h))
 
 -- 10 to a power
 ten_to : ℕ → ℕ
@@ -63,11 +58,11 @@ digits_most (suc k) n h =
     (λ (l : 10 ≤ n). rw (decimal_more n l, length-append) (omega (arith, digits_most k (n / 10) (omega arith))))
 
 -- a number below 2 ^ 64 has at most 20 digits
-pub decimal_most : (n : ℕ) (text after : List ℕ) → after ≡ text ++ decimal n → n < 2 ^ 64 → length after ≤ length text + 20
+pub decimal_most : (n : ℕ) → n < 2 ^ 64 → length (decimal n) ≤ 20
 unfolding ten_to
-decimal_most n text after e h = rw (e, length-append) (omega (arith, digits_most 19 n (omega arith)))
+decimal_most n h = digits_most 19 n (omega arith)
 
 -- what stands before its last two has at most 18
-pub front_most : (n : ℕ) (text after : List ℕ) → after ≡ text ++ decimal (n / 100) → n < 2 ^ 64 → length after ≤ length text + 18
+pub front_most : (n : ℕ) → n < 2 ^ 64 → length (decimal (n / 100)) ≤ 18
 unfolding ten_to
-front_most n text after e h = rw (e, length-append) (omega (arith, digits_most 17 (n / 100) (omega arith)))
+front_most n h = digits_most 17 (n / 100) (omega arith)

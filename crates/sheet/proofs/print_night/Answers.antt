@@ -1,4 +1,5 @@
 -- A card filled afresh is steady, and stays so while its turns are played.
+use mathlib.Core.Path.{refl}
 use native.Mathlib.Omega.{arith}
 use Rattle.model.proofs.Sizes.{fits_exact}
 use Rattle.model.proofs.Refusals.{not_zero}
@@ -9,15 +10,17 @@ pub unreachable-requires : goal.unreachable-requires
 unreachable-requires g c = not_zero _ (filled_taken _ _ _ _ _ c.in_default.ensures c.requires.fit)
 
 pub play_all-requires : goal.play_all-requires
-play_all-requires g c =
-    record {
-      played = record { steady = filled_steady _ _ _ _ _ c.in-Ok.ensures c.requires.fit; fewer = omega arith };
-      few = omega arith;
-    }
+play_all-requires g c = (
+  refl,
+  record {
+    played = record { steady = filled_steady _ _ _ _ _ c.in-Ok.ensures c.requires.fit; fewer = omega arith };
+    few = omega arith;
+  },
+)
 
 pub print_played-requires : goal.print_played-requires
 print_played-requires g c =
-    let played = c.in_ok-night.ensures in (
+    let played = c.play_all.ensures in (
       played.fewer,
       record {
         fit = steady_size _ _ played.steady;

@@ -1,5 +1,5 @@
 -- The measure is the number.
-use Rattle.text.proofs.Page.+decimal.Given as goal
+use Rattle.text.proofs.+decimal.Given as goal
 
 abbrev pub decreases-decimal : goal.decreases-decimal
-decreases-decimal g l = l.x
+decreases-decimal l = l.x

@@ -1,0 +1,14 @@
+-- The number is written behind the page's text.
+use native.Mathlib.Omega.{arith}
+use Rattle.text.proofs.Digits.{decimal_most}
+use Rattle.text.proofs.Behind.{paged}
+use Rattle.text.proofs.Page.decimal.Goals as goal
+
+pub invariant_of-self : goal.invariant_of-self
+invariant_of-self g c = (paged _ _ _ _ _ _ _ c.decimal-self-inside.ensures c.self.view_is c.self.told c.self.invariant c.requires (decimal_most c.args.x (omega arith))).inside
+
+pub returns-clause-text : goal.returns-clause-text
+returns-clause-text g c = (paged _ _ _ _ _ _ _ c.decimal-self-inside.ensures c.self.view_is c.self.told c.self.invariant c.requires (decimal_most c.args.x (omega arith))).text_is
+
+pub returns-clause-near : goal.returns-clause-near
+returns-clause-near g c = (paged _ _ _ _ _ _ _ c.decimal-self-inside.ensures c.self.view_is c.self.told c.self.invariant c.requires (decimal_most c.args.x (omega arith))).near
