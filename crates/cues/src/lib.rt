@@ -48,9 +48,8 @@ pub fn code_in(lanes: usize, lists: &[u8], rack: usize, lane: usize, number: usi
     ensures { result ≡ code_in lanes lists.now rack lane number }
 {
     let start = list_start(lanes, rack, lane);
-    let used = logs::length_from(lists, start, MOST);
     match number.checked_sub(1) {
-        Some(i) if i < used => code_at(lists, start + i),
+        Some(i) if i < logs::length_from(lists, start, MOST) => code_at(lists, start + i),
         _ => 0,
     }
 }

@@ -60,7 +60,7 @@ pub fn play(
     cells: &mut [u8],
     logs: &mut [u8],
     decisions: &mut [u8],
-    racks: [Rack; 8],
+    mut racks: [Rack; 8],
     turn: &[u8],
 ) -> Result<[Rack; 8], Refusal>
     requires { Playable size (card_of cells.old logs.old decisions.old racks) }
@@ -69,7 +69,6 @@ pub fn play(
 {
     let rack = rack_named(size, turn);
     let after = play_rack(size, cells, logs, decisions, racks[rack], turn)?;
-    let mut all = racks;
-    all[rack] = after;
-    Ok(all)
+    racks[rack] = after;
+    Ok(racks)
 }

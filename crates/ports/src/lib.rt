@@ -28,25 +28,6 @@ pub struct Answer {
     pub racks: Racks,
 }
 
-impl Answer {
-    // A reply, with the racks to hand back where it is a refusal.
-    fn of(reply: Result<[Rack; 8], Refusal>, before: [Rack; 8]) -> Answer
-        ensures number { result.number ≡ reply_number reply }
-        ensures racks { result.racks.rack ≡ reply_or before reply }
-    {
-        match reply {
-            Ok(rack) => Answer {
-                number: 0,
-                racks: Racks { rack },
-            },
-            Err(refusal) => Answer {
-                number: refusal.into(),
-                racks: Racks { rack: before },
-            },
-        }
-    }
-}
-
 // What a log query answers: 0, the issuer and the cue's number; or the refusal's number and zeros.
 #[repr(C)]
 #[derive(Clone, Copy, Debug, Default, PartialEq, Eq)]
@@ -100,7 +81,18 @@ pub fn night_fresh(
         rounds,
     };
     let filled = fresh::fresh(size, cells, logs, decisions);
-    Answer::of(filled, [Rack::default(); 8])
+    match filled {
+        Ok(rack) => Answer {
+            number: 0,
+            racks: Racks { rack },
+        },
+        Err(refusal) => Answer {
+            number: refusal.into(),
+            racks: Racks {
+                rack: [Rack::default(); 8],
+            },
+        },
+    }
 }
 
 // The soundness test, over `card::sound`: 0, 1 or 2.
@@ -145,7 +137,16 @@ pub fn night_turn(
         rounds,
     };
     let turned = card::turn(size, cells, logs, decisions, racks.rack, turn);
-    Answer::of(turned, racks.rack)
+    match turned {
+        Ok(rack) => Answer {
+            number: 0,
+            racks: Racks { rack },
+        },
+        Err(refusal) => Answer {
+            number: refusal.into(),
+            racks,
+        },
+    }
 }
 
 // The log query, over `entry::log_entry`.

@@ -1,5 +1,6 @@
 // The eight rack states.
 ghost use Rattle.std.specs.Prelude.{◌≡◌, true, cond, not, ◌&&◌, ◌<◌, ltb, length, get_or};
+ghost use Rattle.std.specs.List.{fold};
 ghost use Rattle.laws.specs.Below.{below};
 ghost use Rattle.model.specs.Size.{size_fits, decisions_length};
 ghost use Rattle.model.specs.InUse.{logs_length, tables_of, card_of, cells_of, logs_of};
@@ -13,7 +14,7 @@ ghost use Rattle.model.proofs.Sizes.{Exact};
 ghost use Rattle.sound.specs.Clocked.{Clocked};
 
 use crate::tables::log_length;
-use crate::values::{sound_cell, sound_value};
+use crate::values::{sound_cell, sound_value, zero_cell, zero_value};
 use model::{Cell, Rack, Section, Size, Value};
 
 // "round is 1 to R + 1, with step 0 at R + 1; step is below 2 + k(2n + 2)"
@@ -48,7 +49,7 @@ fn sound_gathered_cell(size: Size, section: Section, read: bool, c: Cell) -> boo
     if read {
         return sound_cell(size, section, c);
     }
-    c == Cell::default()
+    zero_cell(c)
 }
 
 // The eight cells gathered of one section, of which the first `read` are read.
@@ -159,7 +160,7 @@ fn sound_outcome(size: Size, r: Rack, lane: usize) -> bool
     if kind::steps_in(size, r, lane) == kind::block_steps(size) {
         return has_outcome(size, result, news);
     }
-    result == Cell::default() && news == Value::default()
+    zero_cell(result) && zero_value(news)
 }
 
 // "held place equals log length"
@@ -178,9 +179,7 @@ fn unused_lane(r: Rack, lane: usize) -> bool
     requires { lane < 4 }
     ensures { result ≡ unused_lane r lane }
 {
-    r.held[lane] == Value::default()
-        && r.results[lane] == Cell::default()
-        && r.news[lane] == Value::default()
+    zero_value(r.held[lane]) && zero_cell(r.results[lane]) && zero_value(r.news[lane])
 }
 
 // One lane of a rack, used or not.
@@ -219,11 +218,37 @@ fn sound_rack(size: Size, cells: &[u8], logs: &[u8], decisions: &[u8], rack: usi
         && sound_lanes(size, cells, logs, rack, r)
 }
 
+// Whether gathered cells are zeros. Each is tested whatever the others are: a test that stops at the first costs more where all are.
+fn zero_cells(gathered: &[Cell]) -> bool
+    ensures { result ≡ fold (λ zeros c. zeros && same_cell c no_cell) true gathered.now }
+{
+    gathered.iter().fold(true, |zeros, c| zeros & zero_cell(*c))
+}
+
+// Whether nothing is gathered.
+fn unused_gathered(firsts: &[Cell; 8], seconds: &[Cell; 8]) -> bool
+    ensures { result ≡ below 8 (λ i. same_cell (get_or firsts.now i no_cell) no_cell && same_cell (get_or seconds.now i no_cell) no_cell) }
+{
+    zero_cells(firsts) & zero_cells(seconds)
+}
+
+// The four lanes of a rack that is not in use.
+fn unused_lanes(r: Rack) -> bool
+    ensures { result ≡ below 4 (unused_lane r) }
+{
+    (0..4).all(|lane| unused_lane(r, lane))
+}
+
 // "Unused racks .. are zeros."
+#[tactic(auto, unfolding(model::specs::Sound::unused_rack))]
 fn unused_rack(r: Rack) -> bool
     ensures { result ≡ unused_rack r }
 {
-    r == Rack::default()
+    r.round == 0
+        && r.step == 0
+        && r.first == 0
+        && unused_gathered(&r.firsts, &r.seconds)
+        && unused_lanes(r)
 }
 
 // One of the eight.

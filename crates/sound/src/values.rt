@@ -1,11 +1,27 @@
 // A cue, a value and a cell: zeros, or in their ranges.
 ghost use Rattle.std.specs.Prelude.{◌≡◌, true, cond, eqb};
 ghost use Rattle.model.specs.Size.{size_fits};
-ghost use Rattle.model.specs.Record.{no_cue, same_cue};
+ghost use Rattle.model.specs.Record.{no_cue, no_value, no_cell, same_cue, same_value, same_cell};
 ghost use Rattle.model.specs.Table.{section_of};
 ghost use Rattle.model.specs.Sound.{mark_fits, sound_cue, sound_value, sound_cell};
 
 use model::{Cell, Cue, Section, Size, Value};
+
+// Whether a value is zeros.
+#[tactic(auto, unfolding(model::specs::Record::same_cue, model::specs::Record::same_value))]
+pub fn zero_value(v: Value) -> bool
+    ensures { result ≡ same_value v no_value }
+{
+    v == Value::default()
+}
+
+// Whether a cell is zeros.
+#[tactic(auto, unfolding(model::specs::Record::same_cue, model::specs::Record::same_value, model::specs::Record::same_cell))]
+pub fn zero_cell(c: Cell) -> bool
+    ensures { result ≡ same_cell c no_cell }
+{
+    c == Cell::default()
+}
 
 // "issuers are below n, number is 1 to R + 1"
 #[tactic(auto, using(model::proofs::Sizes::sizes), unfolding(model::specs::Sound::sound_cue))]
@@ -58,7 +74,7 @@ pub fn sound_cell(size: Size, section: Section, c: Cell) -> bool
     ensures { result ≡ sound_cell size (section_of section) c }
 {
     if c.is_empty() {
-        return c.value == Value::default();
+        return zero_value(c.value);
     }
     mark_fits(section, c.mark) && sound_value(size, c.value)
 }

@@ -29,11 +29,11 @@ bounds-racks-rack c = there (goal.at.bounds-racks-rack c).After-rack_named-rack
 pub play_rack-requires : goal.play_rack-requires
 play_rack-requires c = tested_rack _ (lent (goal.at.play_rack-requires c).After-rack_named-rack) c.requires _ _ c.rack_named-rack.ensures
 
-pub offset_bounds-all-rack : goal.offset_bounds-all-rack
-offset_bounds-all-rack c = omega (arith, there (goal.at.offset_bounds-all-rack c).After-rack_named-rack)
+pub offset_bounds-racks-rack-2 : goal.offset_bounds-racks-rack-2
+offset_bounds-racks-rack-2 c = omega (arith, there (goal.at.offset_bounds-racks-rack-2 c).After-rack_named-rack)
 
-pub bounds-all-rack : goal.bounds-all-rack
-bounds-all-rack c = there (goal.at.bounds-all-rack c).After-rack_named-rack
+pub bounds-racks-rack-2 : goal.bounds-racks-rack-2
+bounds-racks-rack-2 c = there (goal.at.bounds-racks-rack-2 c).After-rack_named-rack
 
 pub returns-in_err-after : goal.returns-in_err-after
 returns-in_err-after c =
