@@ -28,6 +28,7 @@ use Rattle.turns.specs.Walk.{place_behind}
 use Rattle.tell.specs.Turns.{Telling, tell_turns, reply_text, TurnsReady}
 use Rattle.turns.proofs.Pieces.{pieces_none}
 use Rattle.turns.proofs.Ends.{pieces_next, fewer}
+use Rattle.tell.proofs.Parts.{length_replies}
 
 -- one turn played and told
 unfoldable pub tell_turn : Size → Card → List ℕ → ℕ → ℕ → ℕ → List ℕ → Telling
@@ -73,6 +74,12 @@ reply_most index number h g = if_line (eqb number 0)
 pub one_most : (b : Bool) → cond b 1 0 ≤ 1
 one_most true = omega arith
 one_most false = omega arith
+
+-- at most each turn is taken
+taken_most : (numbers : List ℕ) → taken_in numbers ≤ length numbers
+unfolding taken_in
+taken_most [] = omega arith
+taken_most (number ∷ numbers) = omega (arith, one_most (eqb number 0), taken_most numbers)
 
 module _ (s : Size) where
   -- one turn by its outcome, its text and its count
@@ -147,7 +154,28 @@ module _ (s : Size) where
         more = omega arith;
       }
 
-  -- what turns told leave: the card steady, at most a line of each turn, and at most each turn taken
+  -- turns keep a card steady
+  turns_steady : (turns : List (List ℕ)) (card : Card) → Steady s card → Steady s (after s card turns)
+  unfolding after
+  turns_steady [] card h = h
+  turns_steady (turn ∷ turns) card h = turns_steady turns (turned s card turn).card (turn_steady s card turn h)
+
+  -- what turns told leave, however large their indices: the card steady, and at most each turn taken
+  pub record TurnsKept (taken count : ℕ) (t : Telling) : Type 0 where
+    pub steady : Steady s t.card
+    pub more : t.taken ≤ taken + count
+
+  pub turns_kept : (turns : List (List ℕ)) (card : Card) (out : List ℕ) (place index taken : ℕ) {t : Telling}
+      → t ≡ tell_turns s card out place index taken turns → Steady s card → TurnsKept taken (length turns) t
+  unfolding tell_turns
+  turns_kept turns card out place index taken e h =
+      rw e
+      (record {
+        steady = turns_steady turns card h;
+        more = omega (arith, taken_most (replies s card turns), length_replies s card turns);
+      })
+
+  -- and where the indices fit 64 bits, at most a line of each turn
   pub record TurnsMoved (out : List ℕ) (place taken count : ℕ) (t : Telling) : Type 0 where
     pub steady : Steady s t.card
     pub same : length t.text.bytes ≡ length out

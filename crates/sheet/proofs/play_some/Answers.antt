@@ -2,7 +2,7 @@
 use Prim.Native.Nat.{◌+◌}
 use native.Mathlib.Omega.{arith}
 use Rattle.model.specs.InUse.{card_of}
-use Rattle.tell.proofs.Turns.{turns_moved}
+use Rattle.tell.proofs.Turns.{turns_kept, turns_moved}
 use Rattle.sheet.specs.Night.{PartDone}
 use Rattle.sheet.proofs.Parts.{part_few}
 use Rattle.sheet.proofs.play_some.Given.{Over}
@@ -16,7 +16,7 @@ done : (g : Over) (c : After-records_in g)
 done g c =
     let p = c.requires in
     let most = part_few _ _ c.in_ok-got.ensures.filled.counts.0 (omega (arith, c.read_part.auto.buf)) in
-    let m = turns_moved _ _ _ _ _ _ _ c.tell_turns-told.ensures p.played.steady (omega (arith, p.few, most)) in
+    let m = turns_kept _ _ _ _ _ _ _ c.tell_turns-told.ensures p.played.steady in
     record {
       played = record { steady = m.steady; fewer = omega (arith, m.more, c.records_in.ensures, p.played.fewer) };
       near = omega (arith, most, c.records_in.ensures);
