@@ -21,6 +21,7 @@ use Rattle.model.specs.Turn.{Outcome, fits, bad_record, finished, misnamed, not_
 use Rattle.model.specs.Night.{after, replies, piece_at, pieces}
 use Rattle.model.specs.Sheet.{refused_line, refused_lines, taken_in}
 use Rattle.steady.proofs.Turn.{Steady, turn_steady}
+use Rattle.steady.proofs.Night.{after_steady}
 use Rattle.text.specs.Written.{Written, write}
 use Rattle.text.proofs.Written.{behind, moved}
 use Rattle.text.proofs.Lines.{refused_most}
@@ -154,12 +155,6 @@ module _ (s : Size) where
         more = omega arith;
       }
 
-  -- turns keep a card steady
-  turns_steady : (turns : List (List ℕ)) (card : Card) → Steady s card → Steady s (after s card turns)
-  unfolding after
-  turns_steady [] card h = h
-  turns_steady (turn ∷ turns) card h = turns_steady turns (turned s card turn).card (turn_steady s card turn h)
-
   -- what turns told leave, however large their indices: the card steady, and at most each turn taken
   pub record TurnsKept (taken count : ℕ) (t : Telling) : Type 0 where
     pub steady : Steady s t.card
@@ -171,11 +166,11 @@ module _ (s : Size) where
   turns_kept turns card out place index taken e h =
       rw e
       (record {
-        steady = turns_steady turns card h;
+        steady = after_steady s card turns h;
         more = omega (arith, taken_most (replies s card turns), length_replies s card turns);
       })
 
-  -- and where the indices fit 64 bits, at most a line of each turn
+  -- what they leave where their indices fit 64 bits: that, and at most a line of each turn
   pub record TurnsMoved (out : List ℕ) (place taken count : ℕ) (t : Telling) : Type 0 where
     pub steady : Steady s t.card
     pub same : length t.text.bytes ≡ length out
@@ -190,12 +185,14 @@ module _ (s : Size) where
       let t = tell_turn s card out place index taken turn in
       let m = turn_moved card out place index taken turn t refl h (omega arith) in
       let rest = turns_end turns t.card t.text.bytes t.text.place (suc index) t.taken m.steady (omega arith) in
-      rw (← tell_next card out place index taken turn turns t refl)
+      let next = tell_next card out place index taken turn turns t refl in
+      let kept = turns_kept (turn ∷ turns) card out place index taken next h in
+      rw (← next)
       (record {
-        steady = rest.steady;
+        steady = kept.steady;
         same = rest.same ∙ m.same;
         near = omega (arith, rest.near, m.near);
-        more = omega (arith, rest.more, m.more);
+        more = kept.more;
       })
 
   pub turns_moved : (turns : List (List ℕ)) (card : Card) (out : List ℕ) (place index taken : ℕ) {t : Telling}
